@@ -1,0 +1,8 @@
+-- What the machine does, in document 01's order. A reader believes these definitions; what follows from them stands in proofs/.
+pub mod Numbers
+pub mod Results
+pub mod Field
+pub mod Hexadecimal
+pub mod Frames
+pub mod Text
+pub mod Memory

@@ -1,0 +1,32 @@
+-- A stage's result: a value, or the first refusal.
+use mathlib.Core.Bool.{Bool, true, false}
+use Rattle.rules.specs.declared.Refusal.{Refusal}
+
+pub data Result (A : Type 0) : Type 0 where
+  refuse : Refusal → Result A
+  pass : A → Result A
+
+-- the result where the test passes, else the refusal
+unfoldable pub require : {A : Type 0} → Bool → Refusal → Result A → Result A
+require true f r = r
+require false f r = refuse f
+
+-- one stage after another
+unfoldable pub bind : {A B : Type 0} → Result A → (A → Result B) → Result B
+bind (refuse f) k = refuse f
+bind (pass a) k = k a
+
+-- the same in a tainted step, which refuses at a sink too: `sink` is refusal 18
+pub data Guarded (A : Type 0) : Type 0 where
+  refuses : Refusal → Guarded A
+  sink : Guarded A
+  passes : A → Guarded A
+
+unfoldable pub after : {A B : Type 0} → Result A → (A → Guarded B) → Guarded B
+after (refuse f) k = refuses f
+after (pass a) k = k a
+
+-- refusal 18 where the test passes, else the result
+unfoldable pub guard : {A : Type 0} → Bool → Guarded A → Guarded A
+guard true r = sink
+guard false r = r

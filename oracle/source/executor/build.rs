@@ -1,0 +1,3 @@
+fn main() {
+    ola_source_folder::announce(&["executor/src/contract_executor.rs"]);
+}
