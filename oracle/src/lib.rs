@@ -1,1 +1,14 @@
+//! The Rust `OlaContractExecutor::resume`, built from the source's own files, as the judge of a port.
+//!
+//! A program is `frames`, a start is a `State`, and a `Stepper` runs the one from the other.
 
+pub mod answers;
+pub mod case;
+pub mod differences;
+pub mod domain;
+pub mod first_list;
+pub mod frames;
+pub mod outcome;
+pub mod splitmix;
+pub mod state;
+pub mod stepper;

@@ -5,4 +5,6 @@ pub mod Field
 pub mod Hexadecimal
 pub mod Frames
 pub mod Text
+pub mod Opcodes
+pub mod Operands
 pub mod Memory

@@ -4,6 +4,7 @@ pub mod hardware {
     include!(concat!(env!("OLA_SOURCE"), "/core/src/vm/hardware.rs"));
 
     // Inside, because it reads and sets private fields.
+    #[warn(warnings)]
     pub mod access;
 }
 #[allow(warnings)]

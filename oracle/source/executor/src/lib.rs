@@ -14,6 +14,7 @@ mod contract_executor {
     ));
 
     // Inside, because it reads and sets private fields.
+    #[warn(warnings)]
     pub mod access;
 }
 

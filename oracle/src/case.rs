@@ -1,0 +1,85 @@
+//! A program, a start and a budget under a name, and short ways to write them.
+
+use ola_core::vm::opcodes::OlaOpcode;
+
+use crate::frames::{Frame, Operand};
+use crate::state::State;
+
+#[derive(Debug, Clone)]
+pub struct Case {
+    pub name: String,
+    pub program: Vec<Frame>,
+    pub start: State,
+    pub budget: u64,
+}
+
+impl Case {
+    /// From the default start, with a budget that no short program uses up.
+    pub fn new(name: impl Into<String>, program: &[Frame]) -> Case {
+        Case {
+            name: name.into(),
+            program: program.to_vec(),
+            start: State::default(),
+            budget: 100,
+        }
+    }
+
+    pub fn budget(mut self, budget: u64) -> Case {
+        self.budget = budget;
+        self
+    }
+
+    pub fn register(mut self, register: usize, number: u64) -> Case {
+        self.start.registers[register] = number;
+        self
+    }
+
+    pub fn pc(mut self, pc: u64) -> Case {
+        self.start.pc = pc;
+        self
+    }
+
+    pub fn clk(mut self, clk: u64) -> Case {
+        self.start.clk = clk;
+        self
+    }
+
+    pub fn storage_address(mut self, address: [u64; 4]) -> Case {
+        self.start.storage_address = address;
+        self
+    }
+
+    /// Present cells from `start` on.
+    pub fn cells(mut self, start: u64, numbers: &[u64]) -> Case {
+        self.start.cells.extend((start..).zip(numbers.iter().copied()));
+        self
+    }
+
+    pub fn tape(mut self, values: &[u64]) -> Case {
+        self.start.tape = values.to_vec();
+        self
+    }
+
+    pub fn output(mut self, values: &[u64]) -> Case {
+        self.start.output = values.to_vec();
+        self
+    }
+}
+
+pub fn frame(opcode: OlaOpcode, op0: Operand, op1: Operand, dst: Operand) -> Frame {
+    Frame {
+        opcode,
+        op0,
+        op1,
+        dst,
+    }
+}
+
+pub fn end() -> Frame {
+    frame(
+        OlaOpcode::END,
+        Operand::Absent,
+        Operand::Absent,
+        Operand::Absent,
+    )
+}

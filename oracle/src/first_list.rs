@@ -1,0 +1,97 @@
+//! The first list of answers: cases written by hand and cases drawn from a seed, all of them compared.
+
+mod edges;
+mod operand_kinds;
+mod programs;
+mod values;
+mod written;
+
+use crate::answers::{write_answer, write_case, FORMAT};
+use crate::case::Case;
+use crate::domain::why_not_compared;
+use crate::outcome::Outcome;
+use crate::splitmix::SplitMix64;
+use crate::stepper::{Mode, Stepper};
+
+/// Any number does; this one is the golden ratio's, as in SplitMix64.
+const SEED: u64 = 0x9E37_79B9_7F4A_7C15;
+
+/// The whole file.
+pub fn text() -> String {
+    let mut text = format!(
+        "\
+# Answers of `OlaContractExecutor::resume` (Sin7Y/olavm 74fb50ee61) in its mode without traces, built for release.
+# Made by: cargo run --release --offline --manifest-path oracle/Cargo.toml -- answers > oracle/answers/first.txt
+# Cases come first from document 01 and by hand, then from SplitMix64 with the seed {SEED:016x}.
+# All are in the domain that document 01 compares.
+{FORMAT}"
+    );
+    for (index, case) in cases().iter().enumerate() {
+        text.push('\n');
+        write_case(&mut text, index + 1, case);
+        write_answer(&mut text, case, Mode::Plain);
+    }
+    text
+}
+
+pub fn cases() -> Vec<Case> {
+    let mut random = SplitMix64::new(SEED);
+    let mut drawn = operand_kinds::cases(&mut random);
+    drawn.extend(edges::cases(&mut random));
+    drawn.extend(programs::cases(&mut random));
+
+    let mut cases = written::cases();
+    cases.extend(drawn.into_iter().filter_map(cut_to_compared));
+    cases
+}
+
+/// The case with a budget that ends before the first step that is not compared; `None` where no step is left.
+fn cut_to_compared(mut case: Case) -> Option<Case> {
+    let mut stepper = Stepper::new(&case.program, &case.start, Mode::Plain);
+    for steps in 0..case.budget {
+        if why_not_compared(&stepper).is_some() {
+            case.budget = steps;
+            break;
+        }
+        if stepper.step().outcome != Outcome::Paused {
+            break;
+        }
+    }
+    (case.budget != 0).then_some(case)
+}
+
+#[cfg(test)]
+mod tests {
+    use super::*;
+
+    #[test]
+    fn every_case_is_compared() {
+        for case in cases() {
+            let mut stepper = Stepper::new(&case.program, &case.start, Mode::Plain);
+            for _ in 0..case.budget {
+                assert_eq!(why_not_compared(&stepper), None, "{}", case.name);
+                if stepper.step().outcome != Outcome::Paused {
+                    break;
+                }
+            }
+        }
+    }
+
+    #[test]
+    fn one_call_does_what_single_steps_do() {
+        for case in cases() {
+            let mut at_once = Stepper::new(&case.program, &case.start, Mode::Plain);
+            let mut by_steps = Stepper::new(&case.program, &case.start, Mode::Plain);
+            let answer = at_once.run(case.budget);
+            let mut steps = 0;
+            let mut outcome = Outcome::Paused;
+            while steps < case.budget && outcome == Outcome::Paused {
+                let single = by_steps.step();
+                steps += single.steps;
+                outcome = single.outcome;
+            }
+            assert_eq!((answer.steps, &answer.outcome), (steps, &outcome));
+            assert_eq!(at_once.state(), by_steps.state(), "{}", case.name);
+        }
+    }
+}

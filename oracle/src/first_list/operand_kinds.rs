@@ -1,0 +1,71 @@
+//! One step of each compared opcode, with each kind in each operand's place.
+
+use ola_core::vm::opcodes::OlaOpcode;
+
+use super::programs::{natural_frame, random_start};
+use super::values;
+use crate::case::Case;
+use crate::frames::{Frame, Operand, OPCODES};
+use crate::splitmix::SplitMix64;
+
+const DRAWS: usize = 2;
+
+pub fn cases(random: &mut SplitMix64) -> Vec<Case> {
+    let mut cases = vec![];
+    for opcode in compared_opcodes() {
+        for place in 0..3 {
+            for kind in 0..7 {
+                for _ in 0..DRAWS {
+                    cases.push(case(random, opcode, place, kind));
+                }
+            }
+        }
+    }
+    cases
+}
+
+pub fn compared_opcodes() -> Vec<OlaOpcode> {
+    OPCODES
+        .into_iter()
+        .filter(|opcode| {
+            !matches!(
+                opcode,
+                OlaOpcode::POSEIDON
+                    | OlaOpcode::SLOAD
+                    | OlaOpcode::SSTORE
+                    | OlaOpcode::SIGCHECK
+                    | OlaOpcode::EVENT
+            )
+        })
+        .collect()
+}
+
+fn case(random: &mut SplitMix64, opcode: OlaOpcode, place: usize, kind: usize) -> Case {
+    let mut frame: Frame = natural_frame(random, opcode);
+    let operand = operand_of_kind(random, kind);
+    let name = ["op0", "op1", "dst"][place];
+    match place {
+        0 => frame.op0 = operand,
+        1 => frame.op1 = operand,
+        _ => frame.dst = operand,
+    }
+    Case {
+        name: format!("{} with {name} of kind {kind}", opcode.token()),
+        program: vec![frame],
+        start: random_start(random),
+        budget: 1,
+    }
+}
+
+pub fn operand_of_kind(random: &mut SplitMix64, kind: usize) -> Operand {
+    let register = random.below(10) as usize;
+    match kind {
+        0 => Operand::Absent,
+        1 => Operand::Immediate(values::any(random)),
+        2 => Operand::Register(register),
+        3 => Operand::Offset(register, values::any(random)),
+        4 => Operand::Factor(register, values::any(random)),
+        5 => Operand::Psp,
+        _ => Operand::Pc,
+    }
+}

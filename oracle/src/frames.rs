@@ -1,0 +1,228 @@
+//! Document 01's frames, and the source's instructions made from them.
+
+use ola_core::program::binary_program::BinaryInstruction;
+use ola_core::vm::hardware::{OlaRegister, OlaSpecialRegister};
+use ola_core::vm::opcodes::OlaOpcode;
+use ola_core::vm::operands::{ImmediateValue, OlaOperand};
+
+pub const MOST_FRAMES: usize = 512;
+
+/// The opcode of each number.
+pub const OPCODES: [OlaOpcode; 27] = [
+    OlaOpcode::ADD,
+    OlaOpcode::MUL,
+    OlaOpcode::EQ,
+    OlaOpcode::ASSERT,
+    OlaOpcode::MOV,
+    OlaOpcode::JMP,
+    OlaOpcode::CJMP,
+    OlaOpcode::CALL,
+    OlaOpcode::RET,
+    OlaOpcode::MLOAD,
+    OlaOpcode::MSTORE,
+    OlaOpcode::END,
+    OlaOpcode::RC,
+    OlaOpcode::AND,
+    OlaOpcode::OR,
+    OlaOpcode::XOR,
+    OlaOpcode::NOT,
+    OlaOpcode::NEQ,
+    OlaOpcode::GTE,
+    OlaOpcode::POSEIDON,
+    OlaOpcode::SLOAD,
+    OlaOpcode::SSTORE,
+    OlaOpcode::TLOAD,
+    OlaOpcode::TSTORE,
+    OlaOpcode::SCCALL,
+    OlaOpcode::SIGCHECK,
+    OlaOpcode::EVENT,
+];
+
+const REGISTERS: [OlaRegister; 10] = [
+    OlaRegister::R0,
+    OlaRegister::R1,
+    OlaRegister::R2,
+    OlaRegister::R3,
+    OlaRegister::R4,
+    OlaRegister::R5,
+    OlaRegister::R6,
+    OlaRegister::R7,
+    OlaRegister::R8,
+    OlaRegister::R9,
+];
+
+/// Lowest bit of an operand's kind and of its selector.
+struct Place {
+    kind: u32,
+    selector: u32,
+}
+
+const OP0: Place = Place {
+    kind: 8,
+    selector: 52,
+};
+const OP1: Place = Place {
+    kind: 11,
+    selector: 42,
+};
+const DST: Place = Place {
+    kind: 14,
+    selector: 32,
+};
+
+const USED_BITS: u64 = 0x1F | 0x1FF << 8 | 0x3FFF_FFFF << 32;
+
+#[derive(Debug, Clone, Copy, PartialEq, Eq)]
+pub enum Operand {
+    Absent,
+    Immediate(u64),
+    Register(usize),
+    Offset(usize, u64),
+    Factor(usize, u64),
+    Psp,
+    Pc,
+}
+
+#[derive(Debug, Clone, Copy, PartialEq, Eq)]
+pub struct Frame {
+    pub opcode: OlaOpcode,
+    pub op0: Operand,
+    pub op1: Operand,
+    pub dst: Operand,
+}
+
+/// Why a program's words are no program.
+#[derive(Debug, Clone, Copy, PartialEq, Eq)]
+pub enum NoProgram {
+    /// No frame or too many: refusal 1.
+    FrameCount,
+    /// Refusal 2, with the malformed frame's number, counted from 1.
+    Malformed(usize),
+}
+
+/// The frames of a program's bare words.
+pub fn decode(words: &[u64]) -> Result<Vec<Frame>, NoProgram> {
+    let mut frames = vec![];
+    let mut rest = words;
+    while !rest.is_empty() {
+        if frames.len() == MOST_FRAMES {
+            return Err(NoProgram::FrameCount);
+        }
+        let malformed = NoProgram::Malformed(frames.len() + 1);
+        let (frame, length) = first_frame(rest).ok_or(malformed)?;
+        frames.push(frame);
+        rest = &rest[length..];
+    }
+    if frames.is_empty() {
+        return Err(NoProgram::FrameCount);
+    }
+    Ok(frames)
+}
+
+/// The bare words of frames.
+pub fn encode(frames: &[Frame]) -> Vec<u64> {
+    frames.iter().flat_map(|frame| frame.words()).collect()
+}
+
+fn first_frame(words: &[u64]) -> Option<(Frame, usize)> {
+    let first = words[0];
+    if first & !USED_BITS != 0 {
+        return None;
+    }
+    let mut values = words[1..].iter().copied();
+    let frame = Frame {
+        opcode: *OPCODES.get((first & 0x1F) as usize)?,
+        op0: read_operand(first, OP0, &mut values)?,
+        op1: read_operand(first, OP1, &mut values)?,
+        dst: read_operand(first, DST, &mut values)?,
+    };
+    Some((frame, words.len() - values.len()))
+}
+
+fn read_operand(
+    first: u64,
+    place: Place,
+    values: &mut impl Iterator<Item = u64>,
+) -> Option<Operand> {
+    let selector = first >> place.selector & 0x3FF;
+    let register = selector.trailing_zeros() as usize;
+    let kind = first >> place.kind & 7;
+    let wanted_bits = if (2..=4).contains(&kind) { 1 } else { 0 };
+    if selector.count_ones() != wanted_bits {
+        return None;
+    }
+    match kind {
+        0 => Some(Operand::Absent),
+        1 => values.next().map(Operand::Immediate),
+        2 => Some(Operand::Register(register)),
+        3 => values.next().map(|word| Operand::Offset(register, word)),
+        4 => values.next().map(|word| Operand::Factor(register, word)),
+        5 => Some(Operand::Psp),
+        6 => Some(Operand::Pc),
+        _ => None,
+    }
+}
+
+impl Frame {
+    pub fn words(&self) -> Vec<u64> {
+        let opcode = OPCODES.iter().position(|opcode| *opcode == self.opcode);
+        let mut words = vec![opcode.expect("every opcode is listed") as u64];
+        for (operand, place) in [(self.op0, OP0), (self.op1, OP1), (self.dst, DST)] {
+            let (kind, register, word) = match operand {
+                Operand::Absent => (0, None, None),
+                Operand::Immediate(word) => (1, None, Some(word)),
+                Operand::Register(register) => (2, Some(register), None),
+                Operand::Offset(register, word) => (3, Some(register), Some(word)),
+                Operand::Factor(register, word) => (4, Some(register), Some(word)),
+                Operand::Psp => (5, None, None),
+                Operand::Pc => (6, None, None),
+            };
+            words[0] |= kind << place.kind;
+            if let Some(register) = register {
+                words[0] |= 1 << (place.selector as usize + register);
+            }
+            words.extend(word);
+        }
+        words
+    }
+
+    /// The source's instruction, made directly: its own decoder knows only some of the operand kinds.
+    pub fn instruction(&self) -> BinaryInstruction {
+        BinaryInstruction {
+            opcode: self.opcode,
+            op0: self.op0.source_operand(),
+            op1: self.op1.source_operand(),
+            dst: self.dst.source_operand(),
+            prophet: None,
+        }
+    }
+}
+
+impl Operand {
+    fn source_operand(self) -> Option<OlaOperand> {
+        let value = |word: u64| ImmediateValue {
+            hex: format!("{word:#x}"),
+        };
+        match self {
+            Operand::Absent => None,
+            Operand::Immediate(word) => Some(OlaOperand::ImmediateOperand { value: value(word) }),
+            Operand::Register(register) => Some(OlaOperand::RegisterOperand {
+                register: REGISTERS[register],
+            }),
+            Operand::Offset(register, word) => Some(OlaOperand::RegisterWithOffset {
+                register: REGISTERS[register],
+                offset: value(word),
+            }),
+            Operand::Factor(register, word) => Some(OlaOperand::RegisterWithFactor {
+                register: REGISTERS[register],
+                factor: value(word),
+            }),
+            Operand::Psp => Some(OlaOperand::SpecialReg {
+                special_reg: OlaSpecialRegister::PSP,
+            }),
+            Operand::Pc => Some(OlaOperand::SpecialReg {
+                special_reg: OlaSpecialRegister::PC,
+            }),
+        }
+    }
+}
