@@ -147,11 +147,7 @@ fn line(text: &mut String, word: &str, numbers: &[u64]) {
     text.push('\n');
 }
 
-fn cells_line<'a>(
-    text: &mut String,
-    word: &str,
-    cells: impl Iterator<Item = (&'a u64, &'a u64)>,
-) {
+fn cells_line<'a>(text: &mut String, word: &str, cells: impl Iterator<Item = (&'a u64, &'a u64)>) {
     text.push_str(word);
     for (address, number) in cells {
         write!(text, " {address:x}:{number:x}").unwrap();

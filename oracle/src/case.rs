@@ -51,7 +51,9 @@ impl Case {
 
     /// Present cells from `start` on.
     pub fn cells(mut self, start: u64, numbers: &[u64]) -> Case {
-        self.start.cells.extend((start..).zip(numbers.iter().copied()));
+        self.start
+            .cells
+            .extend((start..).zip(numbers.iter().copied()));
         self
     }
 

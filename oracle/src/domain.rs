@@ -163,8 +163,7 @@ impl Look<'_> {
     }
 
     fn value(&self, operand: &Option<OlaOperand>) -> Result<u64, Stop> {
-        let number =
-            |register: &OlaRegister| self.stepper.registers()[register.index() as usize];
+        let number = |register: &OlaRegister| self.stepper.registers()[register.index() as usize];
         let word = |immediate: &ImmediateValue| immediate.to_u64().expect("made from a word");
         let in_field = |a: u64, b: u64, result: u128| {
             below_p(a)?;

@@ -8,3 +8,11 @@ pub mod Text
 pub mod Opcodes
 pub mod Operands
 pub mod Memory
+pub mod Cells
+pub mod PlainMap
+pub mod Step
+pub mod Taint
+pub mod Answers
+pub mod Entry
+pub mod Calls
+pub mod Solve

@@ -8,16 +8,12 @@ use crate::case::Case;
 use crate::frames::{Frame, Operand, OPCODES};
 use crate::splitmix::SplitMix64;
 
-const DRAWS: usize = 2;
-
 pub fn cases(random: &mut SplitMix64) -> Vec<Case> {
     let mut cases = vec![];
     for opcode in compared_opcodes() {
         for place in 0..3 {
             for kind in 0..7 {
-                for _ in 0..DRAWS {
-                    cases.push(case(random, opcode, place, kind));
-                }
+                cases.push(case(random, opcode, place, kind));
             }
         }
     }

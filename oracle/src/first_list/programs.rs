@@ -35,7 +35,10 @@ fn random_program(random: &mut SplitMix64) -> Vec<Frame> {
     let count = 2 + random.below(9);
     let mut program: Vec<Frame> = (0..count)
         .map(|_| {
-            let opcode = random.pick(&opcodes);
+            let mut opcode = random.pick(&opcodes);
+            if often_last(opcode) {
+                opcode = random.pick(&opcodes);
+            }
             let mut frame = natural_frame(random, opcode);
             if random.percent(4) {
                 let kind = random.below(7) as usize;
@@ -49,6 +52,14 @@ fn random_program(random: &mut SplitMix64) -> Vec<Frame> {
     }
     aim_jumps(random, &mut program);
     program
+}
+
+/// Opcodes that mostly end a run; drawn less often, so that programs go on for some steps.
+fn often_last(opcode: OlaOpcode) -> bool {
+    matches!(
+        opcode,
+        OlaOpcode::END | OlaOpcode::RET | OlaOpcode::SCCALL | OlaOpcode::ASSERT
+    )
 }
 
 /// Lets most jumps and calls go to an instruction.
@@ -85,12 +96,10 @@ pub fn natural_frame(random: &mut SplitMix64, opcode: OlaOpcode) -> Frame {
     let absent = Operand::Absent;
     let register = Operand::Register(random.below(10) as usize);
     let (op0, op1, dst) = match opcode {
-        OlaOpcode::ADD
-        | OlaOpcode::MUL
-        | OlaOpcode::EQ
-        | OlaOpcode::NEQ
-        | OlaOpcode::MLOAD
-        | OlaOpcode::MSTORE => (value(random), value(random), register),
+        OlaOpcode::ADD | OlaOpcode::MUL | OlaOpcode::EQ | OlaOpcode::NEQ => {
+            (value(random), value(random), register)
+        }
+        OlaOpcode::MLOAD | OlaOpcode::MSTORE => (small(random, 16), small(random, 8), register),
         OlaOpcode::AND | OlaOpcode::OR | OlaOpcode::XOR | OlaOpcode::GTE => {
             (small(random, U32_MAX), small(random, U32_MAX), register)
         }
@@ -125,7 +134,7 @@ fn value(random: &mut SplitMix64) -> Operand {
 
 /// An operand that is often an immediate below `end`.
 fn small(random: &mut SplitMix64, end: u64) -> Operand {
-    if random.percent(70) {
+    if random.percent(85) {
         Operand::Immediate(random.below(end))
     } else {
         value(random)

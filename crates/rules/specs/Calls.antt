@@ -1,0 +1,76 @@
+-- Whole calls: what each public call gives, refusals at entry included. 1, 2 and 3 are looked for in this order.
+use Prim.Native.Nat.{ℕ, zero}
+use mathlib.Core.Bool.{Bool, true, false}
+use mathlib.Core.List.{List, []}
+use Rattle.rules.specs.declared.Instruction.{Instruction}
+use Rattle.rules.specs.declared.Refusal.{Refusal}
+use Rattle.rules.specs.declared.Refusal.the-variants.{BadState}
+use Rattle.rules.specs.Numbers.{choose}
+use Rattle.rules.specs.Results.{Result, refuse, pass}
+use Rattle.rules.specs.Frames.{loadWords}
+use Rattle.rules.specs.Text.{Job, loadText, loadBudgetText}
+use Rattle.rules.specs.Cells.{cells}
+use Rattle.rules.specs.Step.{State, Ran, run}
+use Rattle.rules.specs.Taint.{TaintedState, taintedRun}
+use Rattle.rules.specs.Answers.{Meaning, meaning, refusalMeaning}
+use Rattle.rules.specs.Entry.{Snapshot, TaintedSnapshot, plainEntry, taintedEntry, environment, stateOf, taintedStateOf, snapshotAfter, taintedSnapshotAfter}
+
+-- the answer, the steps, and all that was handed in as it is afterwards
+pub record Called (S : Type 0) : Type 0 where
+  pub answer : Meaning
+  pub steps : ℕ
+  pub left : S
+
+-- a call refused at entry leaves everything
+abbrev pub refused : {S : Type 0} → Refusal → S → Called S
+refused f s = record { answer = refusalMeaning f; steps = 0; left = s }
+
+abbrev pub plainRun : List Instruction → ℕ → Snapshot → Ran (State (cells ℕ))
+plainRun program budget s = run (cells ℕ) (environment program s) budget (stateOf s)
+
+abbrev pub guardedRun : List Instruction → ℕ → TaintedSnapshot → Ran (TaintedState (cells ℕ))
+guardedRun program budget g = taintedRun (cells ℕ) (environment program (g .plain)) budget (taintedStateOf g)
+
+abbrev pub plainAnswered : Snapshot → Ran (State (cells ℕ)) → Called Snapshot
+plainAnswered s r = record { answer = meaning (r .answer); steps = r .steps; left = snapshotAfter s (r .state) }
+
+abbrev pub taintedAnswered : TaintedSnapshot → Ran (TaintedState (cells ℕ)) → Called TaintedSnapshot
+taintedAnswered g r = record { answer = meaning (r .answer); steps = r .steps; left = taintedSnapshotAfter g (r .state) }
+
+-- of a program as loaded
+unfoldable pub plainCall : Result (List Instruction) → ℕ → Snapshot → Called Snapshot
+plainCall (refuse f) budget s = refused f s
+plainCall (pass program) budget s = choose (plainEntry s) (plainAnswered s (plainRun program budget s)) (refused BadState s)
+
+unfoldable pub taintedCall : Result (List Instruction) → ℕ → TaintedSnapshot → Called TaintedSnapshot
+taintedCall (refuse f) budget g = refused f g
+taintedCall (pass program) budget g = choose (taintedEntry g) (taintedAnswered g (guardedRun program budget g)) (refused BadState g)
+
+-- a text's own budget; 0 where the text is refused, which no answer shows
+abbrev pub jobBudget : Result Job → ℕ
+jobBudget (refuse f) = 0
+jobBudget (pass j) = j .budget
+
+abbrev pub jobProgram : Result Job → Result (List Instruction)
+jobProgram (refuse f) = refuse f
+jobProgram (pass j) = pass (j .program)
+
+-- The public calls: bare words, text, text with a budget line
+
+unfoldable pub plainWords : List ℕ → ℕ → Snapshot → Called Snapshot
+plainWords words budget s = plainCall (loadWords words) budget s
+
+unfoldable pub plainText : List ℕ → ℕ → Snapshot → Called Snapshot
+plainText text budget s = plainCall (loadText text) budget s
+
+unfoldable pub plainBudgetText : List ℕ → Snapshot → Called Snapshot
+plainBudgetText text s = plainCall (jobProgram (loadBudgetText text)) (jobBudget (loadBudgetText text)) s
+
+unfoldable pub taintedWords : List ℕ → ℕ → TaintedSnapshot → Called TaintedSnapshot
+taintedWords words budget g = taintedCall (loadWords words) budget g
+
+unfoldable pub taintedText : List ℕ → ℕ → TaintedSnapshot → Called TaintedSnapshot
+taintedText text budget g = taintedCall (loadText text) budget g
+
+unfoldable pub taintedBudgetText : List ℕ → TaintedSnapshot → Called TaintedSnapshot
+taintedBudgetText text g = taintedCall (jobProgram (loadBudgetText text)) (jobBudget (loadBudgetText text)) g

@@ -1,0 +1,177 @@
+-- What a caller hands in, the tests of refusal 3, and the state that it stands for. Document 01, 'Forms' and the refusal table.
+use Prim.Native.Nat.{ℕ, zero, suc, _+_, _*_, _/_, _%_}
+use mathlib.Core.Bool.{Bool, true, false, not, _&&_, _||_}
+use mathlib.Core.List.{List, [], _∷_, map}
+use lib.Dec.{ltb, leb, eqb}
+use lib.ListN.{length, take}
+use Rattle.rules.specs.declared.Machine.{Machine}
+use Rattle.rules.specs.declared.Instruction.{Instruction}
+use Rattle.rules.specs.Numbers.{p, heapEnd, clockEnd, cellLimit, valueLimit, bit}
+use Rattle.rules.specs.Cells as Cells
+use Rattle.rules.specs.Cells.{cells, zipped}
+use Rattle.rules.specs.Step.{Environment, State, isStorable, overlay}
+use Rattle.rules.specs.Taint.{TaintedState}
+
+-- the machine and the buffers, whole
+pub record Snapshot : Type 0 where
+  pub machine : Machine
+  pub addresses : List ℕ
+  pub numbers : List ℕ
+  pub tape : List ℕ
+  pub output : List ℕ
+
+-- for a tainted run also the cells' taints, and a word whose bit r is the taint of register r
+pub record TaintedSnapshot : Type 0 where
+  pub plain : Snapshot
+  pub taints : List ℕ
+  pub registerTaints : ℕ
+
+-- The used parts: each buffer as far as its count and its length go
+
+abbrev pub usedAddresses : Snapshot → List ℕ
+usedAddresses s = take (s .machine .«cell_count») (s .addresses)
+
+abbrev pub usedNumbers : Snapshot → List ℕ
+usedNumbers s = take (s .machine .«cell_count») (s .numbers)
+
+abbrev pub usedTape : Snapshot → List ℕ
+usedTape s = take (s .machine .«tape_count») (s .tape)
+
+abbrev pub usedOutput : Snapshot → List ℕ
+usedOutput s = take (s .machine .«output_count») (s .output)
+
+abbrev pub usedTaints : TaintedSnapshot → List ℕ
+usedTaints g = take (g .plain .machine .«cell_count») (g .taints)
+
+-- the n lowest bits of a word, the lowest first; and the word of bits
+abbrev pub lowBits : ℕ → ℕ → List Bool
+lowBits zero w = []
+lowBits (suc n) w = eqb (w % 2) 1 ∷ lowBits n (w / 2)
+
+abbrev pub wordOfBits : List Bool → ℕ
+wordOfBits [] = 0
+wordOfBits (b ∷ bs) = bit b + 2 * wordOfBits bs
+
+-- the taints of R0 to R9, and of the used cells
+abbrev pub taintedRegisters : TaintedSnapshot → List Bool
+taintedRegisters g = lowBits 10 (g .registerTaints)
+
+abbrev pub taintedCells : TaintedSnapshot → List Bool
+taintedCells g = map (λ t. eqb t 1) (usedTaints g)
+
+-- Refusal 3
+
+abbrev pub every : (ℕ → Bool) → List ℕ → Bool
+every f [] = true
+every f (n ∷ ns) = f n && every f ns
+
+-- strictly rising from n on, within the heap
+abbrev pub risingFrom : ℕ → List ℕ → Bool
+risingFrom n [] = true
+risingFrom n (a ∷ l) = leb n a && (ltb a heapEnd && risingFrom (suc a) l)
+
+-- each tainted number is below p
+abbrev pub taintedBelow : List Bool → List ℕ → Bool
+taintedBelow [] ns = true
+taintedBelow (t ∷ ts) [] = true
+taintedBelow (t ∷ ts) (n ∷ ns) = (not t || ltb n p) && taintedBelow ts ns
+
+-- all tests pass
+unfoldable pub all : List Bool → Bool
+all [] = true
+all (b ∷ bs) = b && all bs
+
+unfoldable pub plainEntry : Snapshot → Bool
+plainEntry s =
+    let m = s .machine in
+    all
+    (ltb (m .clk) clockEnd
+    ∷ leb (m .«cell_count») (length (s .addresses))
+    ∷ leb (m .«tape_count») (length (s .tape))
+    ∷ leb (m .«output_count») (length (s .output))
+    ∷ eqb (length (s .numbers)) (length (s .addresses))
+    ∷ leb (length (s .addresses)) cellLimit
+    ∷ leb (length (s .tape)) valueLimit
+    ∷ leb (length (s .output)) valueLimit
+    ∷ risingFrom 0 (usedAddresses s)
+    ∷ every isStorable (usedNumbers s)
+    ∷ [])
+
+-- each tainted number, of registers and of cells
+unfoldable pub taintedNumbersBelow : TaintedSnapshot → Bool
+taintedNumbersBelow g =
+    all
+    (taintedBelow (taintedRegisters g) (g .plain .machine .registers)
+    ∷ taintedBelow (taintedCells g) (usedNumbers (g .plain))
+    ∷ [])
+
+unfoldable pub taintedEntry : TaintedSnapshot → Bool
+taintedEntry g =
+    all
+    (plainEntry (g .plain)
+    ∷ eqb (length (g .taints)) (length (g .plain .addresses))
+    ∷ every (λ t. leb t 1) (usedTaints g)
+    ∷ ltb (g .registerTaints) 1024
+    ∷ taintedNumbersBelow g
+    ∷ [])
+
+-- The state that a snapshot stands for
+
+abbrev pub environment : List Instruction → Snapshot → Environment
+environment program s =
+    record {
+      program = program;
+      psp = s .machine .psp;
+      storage = s .machine .«storage_addr»;
+      cellCapacity = length (s .addresses);
+      tapeCapacity = length (s .tape);
+      outputCapacity = length (s .output);
+    }
+
+abbrev pub stateOf : Snapshot → State (cells ℕ)
+stateOf s =
+    record {
+      registers = s .machine .registers;
+      pc = s .machine .pc;
+      clk = s .machine .clk;
+      cells = zipped (usedAddresses s) (usedNumbers s);
+      tape = usedTape s;
+      output = usedOutput s;
+      written = usedOutput s;
+    }
+
+abbrev pub taintedStateOf : TaintedSnapshot → TaintedState (cells ℕ)
+taintedStateOf g =
+    record {
+      plain = stateOf (g .plain);
+      taints = record { registers = taintedRegisters g; cells = zipped (usedAddresses (g .plain)) (usedTaints g) };
+    }
+
+-- The snapshot that a state leaves: what is used, and behind it what stood there
+
+abbrev pub snapshotAfter : Snapshot → State (cells ℕ) → Snapshot
+snapshotAfter s t =
+    record {
+      machine = record {
+        registers = t .registers;
+        pc = t .pc;
+        clk = t .clk;
+        psp = s .machine .psp;
+        «storage_addr» = s .machine .«storage_addr»;
+        «cell_count» = Cells.count (t .cells);
+        «tape_count» = length (t .tape);
+        «output_count» = length (t .output);
+      };
+      addresses = overlay (Cells.addresses (t .cells)) (s .addresses);
+      numbers = overlay (Cells.contents (t .cells)) (s .numbers);
+      tape = overlay (t .tape) (s .tape);
+      output = overlay (t .written) (s .output);
+    }
+
+abbrev pub taintedSnapshotAfter : TaintedSnapshot → TaintedState (cells ℕ) → TaintedSnapshot
+taintedSnapshotAfter g q =
+    record {
+      plain = snapshotAfter (g .plain) (q .plain);
+      taints = overlay (Cells.contents (q .taints .cells)) (g .taints);
+      registerTaints = wordOfBits (q .taints .registers);
+    }

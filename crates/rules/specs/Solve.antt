@@ -1,0 +1,89 @@
+-- Kilosteps, and what `solve` prints. Document 01, 'Cases'.
+use Prim.Native.Nat.{ℕ, _+_, _/_, _%_}
+use mathlib.Core.Bool.{Bool, true, false}
+use mathlib.Core.List.{List, [], _∷_, _++_}
+use lib.Dec.{ltb, leb}
+use lib.ListN.{replicate}
+use Rattle.rules.specs.Numbers.{defaultPsp, cellLimit, valueLimit, choose}
+use Rattle.rules.specs.Hexadecimal.{shortestHex}
+use Rattle.rules.specs.Answers.{Meaning, outcome, refusal}
+use Rattle.rules.specs.Entry.{Snapshot, usedOutput}
+use Rattle.rules.specs.Calls.{Called, plainBudgetText}
+
+-- clk / 1000, to nearest, half up
+unfoldable pub kilosteps : ℕ → ℕ
+kilosteps clk = (clk + 500) / 1000
+
+-- 'e', ' ' and a line feed
+abbrev letterE : ℕ
+letterE = 101
+
+abbrev space : ℕ
+space = 32
+
+abbrev lineFeed : ℕ
+lineFeed = 10
+
+-- a number below 100 in decimal
+unfoldable pub decimal : ℕ → List ℕ
+decimal n = choose (ltb n 10) ((n + 48) ∷ []) ((n / 10 + 48) ∷ ((n % 10 + 48) ∷ []))
+
+abbrev pub field : ℕ → List ℕ
+field n = space ∷ shortestHex n
+
+unfoldable pub valueLines : List ℕ → List ℕ
+valueLines [] = []
+valueLines (v ∷ vs) = (shortestHex v ++ (lineFeed ∷ [])) ++ valueLines vs
+
+-- steps, pc, clk, kilosteps; and the output's values
+abbrev pub stateFields : Called Snapshot → List ℕ
+stateFields c =
+    field (c .steps) ++ (field (c .left .machine .pc) ++ (field (c .left .machine .clk) ++ field (kilosteps (c .left .machine .clk))))
+
+abbrev pub zeroFields : List ℕ
+zeroFields = field 0 ++ (field 0 ++ (field 0 ++ field 0))
+
+-- the frame that refusal 2 carries
+unfoldable pub carriedFields : List ℕ → List ℕ
+carriedFields [] = []
+carriedFields (v ∷ vs) = field v ++ carriedFields vs
+
+-- refusals 1, 2 and 3 are found at entry
+abbrev pub isEntryRefusal : ℕ → Bool
+isEntryRefusal n = leb n 3
+
+abbrev answerLines : Meaning → Called Snapshot → List ℕ
+answerLines (outcome n vs) c =
+    (letterE ∷ shortestHex n) ++ (stateFields c ++ (lineFeed ∷ valueLines (usedOutput (c .left))))
+answerLines (refusal n vs) c =
+    choose (isEntryRefusal n)
+    (decimal n ++ (zeroFields ++ (carriedFields vs ++ (lineFeed ∷ []))))
+    (decimal n ++ (stateFields c ++ (lineFeed ∷ valueLines (usedOutput (c .left)))))
+
+-- what `solve` prints of a call
+unfoldable pub printed : Called Snapshot → List ℕ
+printed c = answerLines (c .answer) c
+
+-- where `solve` starts: all zero, nothing used, the default PSP, every buffer at its greatest length
+unfoldable pub solveStart : Snapshot
+solveStart =
+    record {
+      machine = record {
+        registers = replicate 10 0;
+        pc = 0;
+        clk = 0;
+        psp = defaultPsp;
+        «storage_addr» = replicate 4 0;
+        «cell_count» = 0;
+        «tape_count» = 0;
+        «output_count» = 0;
+      };
+      addresses = replicate cellLimit 0;
+      numbers = replicate cellLimit 0;
+      tape = replicate valueLimit 0;
+      output = replicate valueLimit 0;
+    }
+
+-- the whole program: its input, and what it writes
+unfoldable pub solve : List ℕ → List ℕ
+solve input = printed (plainBudgetText input solveStart)
