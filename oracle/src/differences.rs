@@ -262,8 +262,11 @@ fn no_limits() -> Vec<Difference> {
     let tstore = frame(TSTORE, imm(0), imm(1), NONE);
     vec![
         plain(
-            one("one cell too many", frame(MSTORE, PSP, imm(P - 1), reg(1)))
-                .cells(0, &[0; MOST_CELLS]),
+            one(
+                "one cell too many",
+                frame(MSTORE, imm(MOST_CELLS as u64), imm(0), reg(1)),
+            )
+            .cells(0, &[0; MOST_CELLS]),
             "refused 16",
         ),
         plain(
@@ -294,17 +297,17 @@ fn no_limits() -> Vec<Difference> {
 }
 
 fn traced() -> Vec<Difference> {
+    let sstore = frame(SSTORE, reg(0), reg(0), NONE);
+    let event = frame(EVENT, reg(0), reg(0), NONE);
     vec![
+        traced_case(one("traced sstore", sstore).cells(0, &[0; 4]), "refused 5"),
+        traced_case(one("traced event", event).cells(0, &[0]), "refused 5"),
         traced_case(
             one(
                 "traced, an op0 that has no encoding",
                 frame(ADD, imm(1), imm(2), reg(1)),
             ),
             "e3, as without traces; not compared where get_inst_imm_u64 fails",
-        ),
-        traced_case(
-            one("traced call, r9 = 0", frame(CALL, NONE, imm(7), NONE)),
-            "refused 11, before the store",
         ),
     ]
 }

@@ -105,15 +105,18 @@ taintedNumbersBelow g =
     ∷ taintedBelow (taintedCells g) (usedNumbers (g .plain))
     ∷ [])
 
-unfoldable pub taintedEntry : TaintedSnapshot → Bool
-taintedEntry g =
+-- the tests that only a tainted call has
+unfoldable pub taintEntry : TaintedSnapshot → Bool
+taintEntry g =
     all
-    (plainEntry (g .plain)
-    ∷ eqb (length (g .taints)) (length (g .plain .addresses))
+    (eqb (length (g .taints)) (length (g .plain .addresses))
     ∷ every (λ t. leb t 1) (usedTaints g)
     ∷ ltb (g .registerTaints) 1024
     ∷ taintedNumbersBelow g
     ∷ [])
+
+unfoldable pub taintedEntry : TaintedSnapshot → Bool
+taintedEntry g = all (plainEntry (g .plain) ∷ taintEntry g ∷ [])
 
 -- The state that a snapshot stands for
 

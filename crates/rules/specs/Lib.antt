@@ -16,3 +16,7 @@ pub mod Answers
 pub mod Entry
 pub mod Calls
 pub mod Solve
+pub mod TaintRules
+pub mod SinkRules
+pub mod NonInterference
+pub mod Relations

@@ -6,9 +6,8 @@ const DEFAULT: &str = "../shared/docs/src";
 
 /// Hands the folder on to `env!("OLA_SOURCE")` and has the crate built again when one of `files` changes.
 pub fn announce(files: &[&str]) {
-    let folder = folder();
-    println!("cargo:rustc-env=OLA_SOURCE={}", folder.display());
     println!("cargo:rerun-if-env-changed=OLA_SOURCE");
+    let folder = folder();
     for file in files {
         let path = folder.join(file);
         assert!(
@@ -18,6 +17,8 @@ pub fn announce(files: &[&str]) {
         );
         println!("cargo:rerun-if-changed={}", path.display());
     }
+    let folder = folder.canonicalize().expect("it holds the files");
+    println!("cargo:rustc-env=OLA_SOURCE={}", folder.display());
 }
 
 /// A relative folder counts from the repository's root.

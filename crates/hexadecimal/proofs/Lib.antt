@@ -1,0 +1,3 @@
+-- Laws of reading and writing digits.
+pub mod Digits
+pub mod Reading

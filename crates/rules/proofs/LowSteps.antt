@@ -1,0 +1,385 @@
+-- Two states that differ in tainted numbers alone: past the operands' sinks, each class of opcodes does the same to both.
+use Prim.Native.Nat.{ℕ, zero, suc, _+_, _-_, _<_, _≤_}
+use mathlib.Core.Path.{_≡_, refl, sym, ap, subst, _∙_}
+use mathlib.Core.Bool.{Bool, true, false, not, _&&_, _||_}
+use mathlib.Core.List.{List, [], _∷_, _++_}
+use native.Mathlib.Omega.{arith}
+use lib.Dec.{leb, eqb}
+use lib.ListN.{length, getD, set, length-set, length-append}
+use Rattle.rules.specs.declared.Instruction.{Instruction}
+use Rattle.rules.specs.declared.Refusal.the-variants.{NotInField, NotSmall, AssertFailed, RangeCheckFailed, StoreFault, TapeFault}
+use Rattle.rules.specs.Numbers.{p, choose, bit}
+use Rattle.rules.specs.Field.{fieldAdd, fieldComplement}
+use Rattle.rules.specs.Cells.{Cells, put, cells}
+use Rattle.rules.specs.Opcodes.{Class, field, equality, small, complement, move, assert, rangeCheck, jump, conditionalJump, call, return, load, store, tapeLoad, tapeStore, contractCall, end, uncovered}
+use Rattle.rules.specs.Operands.{binaryLength, wantsOf, Operands, operands}
+use Rattle.rules.specs.Step.{Environment, State, Finish, Next, r9, nextPc, readBelow, storeMany, storeOne, onTape, tapeValues, wraps, overlay, writesRegister, writesCells, writesTape, operate}
+use Rattle.rules.specs.Taint.{registerTaint, operandTaint, sinksOf, operandSink, Taints, cellTaint, readSink, taintsRegister, taintsCell, cleanMany, taintsAfter}
+use Rattle.rules.specs.Relations.{Both, refused, passed}
+use Rattle.rules.proofs.Relational.{both-bind, both-require}
+use Rattle.rules.proofs.BoolLaws.{or-left, or-right}
+use Rattle.rules.proofs.LowStates.{
+  Related,
+  equal,
+  hidden,
+  StatesRelated,
+  NextRelated,
+  CellsRelated,
+  one-below,
+  mod-below,
+  related-element,
+  untainted,
+  equally,
+  related-both,
+  related-one,
+  registers-get,
+  registers-set,
+  cell-read,
+  below-read,
+  span-read,
+  one-stored,
+  many-stored,
+  readTaint,
+  value-operand,
+  operand-read,
+}
+
+-- the taints of the operands as read
+abbrev taint0 : Taints (cells ℕ) → Class → Instruction → Bool
+taint0 t c i = readTaint (t .registers) (wantsOf c .op0) (i .op0)
+
+abbrev taint1 : Taints (cells ℕ) → Class → Instruction → Bool
+taint1 t c i = readTaint (t .registers) (wantsOf c .op1) (i .op1)
+
+abbrev taintDst : Taints (cells ℕ) → Class → Instruction → Bool
+taintDst t c i = readTaint (t .registers) (wantsOf c .dst) (i .dst)
+
+pub record OperandsRelated (t : Taints (cells ℕ)) (c : Class) (i : Instruction) (o q : Operands) : Type 0 where
+  pub op0 : Related (taint0 t c i) (o .op0) (q .op0)
+  pub op1 : Related (taint1 t c i) (o .op1) (q .op1)
+  pub dst : Related (taintDst t c i) (o .dst) (q .dst)
+
+pub operands-read : (psp : ℕ) (t : Taints (cells ℕ)) (c : Class) (i : Instruction) {s u : State (cells ℕ)} → StatesRelated t s u
+    → Both (OperandsRelated t c i) (operands psp (s .registers) c i) (operands psp (u .registers) c i)
+unfolding operands
+operands-read psp t c i n =
+    both-bind _ _ (operand-read psp (n .registers) (wantsOf c .op0) (i .op0)) λ a a′ h.
+    both-bind _ _ (operand-read psp (n .registers) (wantsOf c .op1) (i .op1)) λ b b′ k.
+    both-bind _ _ (operand-read psp (n .registers) (wantsOf c .dst) (i .dst)) λ d d′ l.
+    passed (record { op0 = h; op1 = k; dst = l })
+
+-- Two operations agree: the same sinks of what was read, the same taints, and the same refusal or states that are related where no sink is met
+pub record Agreed (e : Environment) (t : Taints (cells ℕ)) (c : Class) (i : Instruction) (s u : State (cells ℕ)) (o q : Operands) : Type 0 where
+  pub sinks : readSink (cells ℕ) t c i s o ≡ readSink (cells ℕ) t c i u q
+  pub taints : taintsAfter (cells ℕ) t c i s o ≡ taintsAfter (cells ℕ) t c i u q
+  pub next : Both (λ a b. readSink (cells ℕ) t c i s o ≡ false → NextRelated (taintsAfter (cells ℕ) t c i s o) a b)
+      (operate (cells ℕ) e c i s o)
+      (operate (cells ℕ) e c i u q)
+
+-- The states after a step
+
+next-pc : {t : Taints (cells ℕ)} {s u : State (cells ℕ)} → StatesRelated t s u → (i : Instruction) → nextPc (cells ℕ) s i ≡ nextPc (cells ℕ) u i
+next-pc n i = ap (λ c. c + binaryLength i) (n .pc)
+
+register-written : {t : Taints (cells ℕ)} {s u : State (cells ℕ)} → StatesRelated t s u → {a b : ℕ} → a ≡ b → (r : ℕ) {k : Bool} {v w : ℕ}
+    → Related k v w → NextRelated (taintsRegister (cells ℕ) t r k) (writesRegister (cells ℕ) s a r v) (writesRegister (cells ℕ) u b r w)
+register-written {t} n e r {k} h =
+    record {
+      state = record {
+        registers = registers-set (n .registers) r k h;
+        pc = e;
+        clk = ap suc (n .clk);
+        cells = n .cells;
+        tape = n .tape;
+        output = n .output;
+        written = n .written;
+        within = n .within;
+        ten = length-set (t .registers) r k ∙ n .ten;
+      };
+      finish = refl;
+    }
+
+cells-written : {t : Taints (cells ℕ)} {s u : State (cells ℕ)} → StatesRelated t s u → {a b : ℕ} → a ≡ b → {k c d : Cells ℕ} → CellsRelated k c d
+    → NextRelated (record { registers = t .registers; cells = k }) (writesCells (cells ℕ) s a c) (writesCells (cells ℕ) u b d)
+cells-written n e h =
+    record {
+      state = record {
+        registers = n .registers;
+        pc = e;
+        clk = ap suc (n .clk);
+        cells = h;
+        tape = n .tape;
+        output = n .output;
+        written = n .written;
+        within = n .within;
+        ten = n .ten;
+      };
+      finish = refl;
+    }
+
+tape-written : {t : Taints (cells ℕ)} {s u : State (cells ℕ)} → StatesRelated t s u → (i : Instruction) {a b c d v w : List ℕ} {f g : Finish}
+    → a ≡ b → c ≡ d → v ≡ w → f ≡ g → length c ≤ length v
+    → NextRelated t (writesTape (cells ℕ) s (nextPc (cells ℕ) s i) a c v f) (writesTape (cells ℕ) u (nextPc (cells ℕ) u i) b d w g)
+tape-written n i x y z f l =
+    record {
+      state = record {
+        registers = n .registers;
+        pc = next-pc n i;
+        clk = ap suc (n .clk);
+        cells = n .cells;
+        tape = x;
+        output = y;
+        written = z;
+        within = l;
+        ten = n .ten;
+      };
+      finish = f;
+    }
+
+bit-below : (b : Bool) → bit b < p
+bit-below true = one-below
+bit-below false = let h : 1 < p = one-below in omega arith
+
+complement-below : (n : ℕ) → fieldComplement n < p
+complement-below n = let h : 1 < p = one-below in omega arith
+
+operands-equal : {o q : Operands} → o .op0 ≡ q .op0 → o .op1 ≡ q .op1 → o .dst ≡ q .dst → o ≡ q
+operands-equal a b c = λ i. record { op0 = a i; op1 = b i; dst = c i }
+
+or-both : {a b : Bool} → a ≡ false → b ≡ false → (a || b) ≡ false
+or-both {a} {b} h k = rw (h, k)
+
+overlay-longer : (a b : List ℕ) → length a ≤ length (overlay a b)
+overlay-longer a b = rw length-append (omega arith)
+
+-- Each class of opcodes
+
+module _ (e : Environment) (t : Taints (cells ℕ)) (i : Instruction) {s u : State (cells ℕ)} (n : StatesRelated t s u) where
+  r9-equal : registerTaint (t .registers) 9 ≡ false → r9 (cells ℕ) s ≡ r9 (cells ℕ) u
+  r9-equal k = untainted k (registers-get (n .registers) 9)
+
+  -- classes without sinks: tainted operands go into the result
+
+  on-field : (f : ℕ → ℕ → ℕ) → ((a b : ℕ) → f a b < p) → {o q : Operands} → OperandsRelated t (field f) i o q → Agreed e t (field f) i s u o q
+  unfolding readSink taintsAfter operate wantsOf
+  on-field f l {o} {q} r =
+      let z : o .dst ≡ q .dst = untainted refl (r .dst) in
+      subst (λ d. Agreed e t (field f) i s u o (record { op0 = q .op0; op1 = q .op1; dst = d })) z
+      (record {
+        sinks = refl;
+        taints = refl;
+        next =
+            both-require NotInField (related-element (r .op0))
+            (both-require NotInField (related-element (r .op1))
+            (passed λ k. register-written n (next-pc n i) (o .dst) (related-both f l (r .op0) (r .op1))));
+      })
+
+  on-equality : (f : Bool → Bool) {o q : Operands} → OperandsRelated t (equality f) i o q → Agreed e t (equality f) i s u o q
+  unfolding readSink taintsAfter operate wantsOf
+  on-equality f {o} {q} r =
+      let z : o .dst ≡ q .dst = untainted refl (r .dst) in
+      subst (λ d. Agreed e t (equality f) i s u o (record { op0 = q .op0; op1 = q .op1; dst = d })) z
+      (record {
+        sinks = refl;
+        taints = refl;
+        next = passed λ k.
+            register-written n (next-pc n i) (o .dst) (related-both (λ a b. bit (f (eqb a b))) (λ a b. bit-below (f (eqb a b))) (r .op0) (r .op1));
+      })
+
+  on-complement : {o q : Operands} → OperandsRelated t complement i o q → Agreed e t complement i s u o q
+  unfolding readSink taintsAfter operate wantsOf
+  on-complement {o} {q} r =
+      let z : o .dst ≡ q .dst = untainted refl (r .dst) in
+      subst (λ d. Agreed e t complement i s u o (record { op0 = q .op0; op1 = q .op1; dst = d })) z
+      (record {
+        sinks = refl;
+        taints = refl;
+        next =
+            both-require NotInField (related-element (r .op1))
+            (passed λ k. register-written n (next-pc n i) (o .dst) (related-one fieldComplement complement-below (r .op1)));
+      })
+
+  on-move : {o q : Operands} → OperandsRelated t move i o q → Agreed e t move i s u o q
+  unfolding readSink taintsAfter operate wantsOf
+  on-move {o} {q} r =
+      let z : o .dst ≡ q .dst = untainted refl (r .dst) in
+      subst (λ d. Agreed e t move i s u o (record { op0 = q .op0; op1 = q .op1; dst = d })) z
+      (record { sinks = refl; taints = refl; next = passed λ k. register-written n (next-pc n i) (o .dst) (r .op1) })
+
+  -- classes whose operands are untainted past the sinks: both have the same
+
+  on-small : (f : ℕ → ℕ → ℕ) (o : Operands) → (operandTaint (t .registers) (i .op0) || operandTaint (t .registers) (i .op1)) ≡ false
+      → Agreed e t (small f) i s u o o
+  unfolding readSink taintsAfter operate
+  on-small f o k =
+      record {
+        sinks = refl;
+        taints = refl;
+        next = both-require NotSmall refl (both-require NotSmall refl (passed λ _. register-written n (next-pc n i) (o .dst) (equally k refl)));
+      }
+
+  on-assert : (o : Operands) → Agreed e t assert i s u o o
+  unfolding readSink taintsAfter operate
+  on-assert o =
+      record { sinks = refl; taints = refl; next = both-require AssertFailed refl (passed λ k. cells-written n (next-pc n i) (n .cells)) }
+
+  on-range : (o : Operands) → Agreed e t rangeCheck i s u o o
+  unfolding readSink taintsAfter operate
+  on-range o =
+      record { sinks = refl; taints = refl; next = both-require RangeCheckFailed refl (passed λ k. cells-written n (next-pc n i) (n .cells)) }
+
+  on-jump : (o : Operands) → Agreed e t jump i s u o o
+  unfolding readSink taintsAfter operate
+  on-jump o = record { sinks = refl; taints = refl; next = passed λ k. cells-written n refl (n .cells) }
+
+  on-conditional : (o : Operands) → Agreed e t conditionalJump i s u o o
+  unfolding readSink taintsAfter operate
+  on-conditional o =
+      record {
+        sinks = refl;
+        taints = refl;
+        next =
+            both-require NotSmall refl
+            (both-bind _ _ (value-operand (e .psp) (n .registers) (i .op1)) λ a b r.
+            passed λ k. cells-written n (go (eqb (o .op0) 1) (untainted k r)) (n .cells));
+      }
+    where
+      go : (c : Bool) {a b : ℕ} → a ≡ b → choose c a (nextPc (cells ℕ) s i) ≡ choose c b (nextPc (cells ℕ) u i)
+      go true h = h
+      go false h = next-pc n i
+
+  on-call : (o : Operands) → registerTaint (t .registers) 9 ≡ false → Agreed e t call i s u o o
+  unfolding readSink taintsAfter operate
+  on-call o k =
+      let d : r9 (cells ℕ) s ≡ r9 (cells ℕ) u = r9-equal k in
+      record {
+        sinks = refl;
+        taints = ap (λ r. taintsCell (cells ℕ) t (r - 1) false) d;
+        next = both-require StoreFault (ap (leb 1) d) (both-bind _ _ (stored d) λ a b r. passed λ _. cells-written n refl r);
+      }
+    where
+      stored : r9 (cells ℕ) s ≡ r9 (cells ℕ) u
+          → Both (CellsRelated (put (t .cells) (r9 (cells ℕ) s - 1) 0))
+          (storeOne (cells ℕ) (s .cells) (r9 (cells ℕ) s - 1) (nextPc (cells ℕ) s i))
+          (storeOne (cells ℕ) (u .cells) (r9 (cells ℕ) u - 1) (nextPc (cells ℕ) u i))
+      stored d =
+          subst
+          (λ r. Both (CellsRelated (put (t .cells) (r9 (cells ℕ) s - 1) 0))
+          (storeOne (cells ℕ) (s .cells) (r9 (cells ℕ) s - 1) (nextPc (cells ℕ) s i))
+          (storeOne (cells ℕ) (u .cells) (r - 1) (nextPc (cells ℕ) u i)))
+          d
+          (one-stored (n .cells) (r9 (cells ℕ) s - 1) false (equal (next-pc n i)))
+
+  on-return : (o : Operands) → registerTaint (t .registers) 9 ≡ false → Agreed e t return i s u o o
+  unfolding readSink taintsAfter operate
+  on-return o k =
+      let d : r9 (cells ℕ) s ≡ r9 (cells ℕ) u = r9-equal k in
+      record {
+        sinks = ap (λ r. cellTaint (cells ℕ) (t .cells) (r - 1)) d;
+        taints = ap (λ r. taintsRegister (cells ℕ) t 9 (cellTaint (cells ℕ) (t .cells) (r - 2))) d;
+        next =
+            both-bind _ _ (read 1 d) λ a b h.
+            both-bind _ _ (read 2 d) λ v w l.
+            passed λ q. register-written n (untainted q h) 9 l;
+      }
+    where
+      read : (k : ℕ) → r9 (cells ℕ) s ≡ r9 (cells ℕ) u
+          → Both (Related (cellTaint (cells ℕ) (t .cells) (r9 (cells ℕ) s - k)))
+          (readBelow (cells ℕ) (s .cells) (r9 (cells ℕ) s) k)
+          (readBelow (cells ℕ) (u .cells) (r9 (cells ℕ) u) k)
+      read k d =
+          subst
+          (λ r. Both (Related (cellTaint (cells ℕ) (t .cells) (r9 (cells ℕ) s - k)))
+          (readBelow (cells ℕ) (s .cells) (r9 (cells ℕ) s) k)
+          (readBelow (cells ℕ) (u .cells) r k))
+          d
+          (below-read (n .cells) (r9 (cells ℕ) s) k)
+
+  on-load : (o : Operands) → Agreed e t load i s u o o
+  unfolding readSink taintsAfter operate
+  on-load o =
+      record {
+        sinks = refl;
+        taints = refl;
+        next =
+            both-require NotInField refl
+            (both-require NotInField refl
+            (both-bind _ _ (cell-read (n .cells) (fieldAdd (o .op0) (o .op1))) λ v w r.
+            passed λ k. register-written n (next-pc n i) (o .dst) r));
+      }
+
+  on-store : (o : Operands) → Agreed e t store i s u o o
+  unfolding readSink taintsAfter operate
+  on-store o =
+      record {
+        sinks = refl;
+        taints = refl;
+        next =
+            both-require NotInField refl
+            (both-require NotInField refl
+            (both-bind _ _
+            (one-stored (n .cells) (fieldAdd (o .op0) (o .op1)) (registerTaint (t .registers) (o .dst)) (registers-get (n .registers) (o .dst)))
+            λ c d r. passed λ k. cells-written n (next-pc n i) r));
+      }
+
+  on-tape-load : (o : Operands) → Agreed e t tapeLoad i s u o o
+  unfolding readSink taintsAfter operate
+  on-tape-load o =
+      record {
+        sinks = refl;
+        taints = ap (λ x. record { registers = t .registers; cells = cleanMany (cells ℕ) (t .cells) (o .dst) (tapeValues (o .op0) (o .op1) x) }) (n .tape);
+        next =
+            both-require TapeFault (ap (onTape (o .op0) (o .op1)) (n .tape))
+            (both-require StoreFault (ap (λ x. not (wraps (o .dst) (tapeValues (o .op0) (o .op1) x))) (n .tape))
+            (both-bind _ _ stored λ c d r. passed λ k. cells-written n (next-pc n i) r));
+      }
+    where
+      vs : List ℕ → List ℕ
+      vs x = tapeValues (o .op0) (o .op1) x
+
+      stored : Both (CellsRelated (cleanMany (cells ℕ) (t .cells) (o .dst) (vs (s .tape))))
+          (storeMany (cells ℕ) (s .cells) (o .dst) (vs (s .tape)))
+          (storeMany (cells ℕ) (u .cells) (o .dst) (vs (u .tape)))
+      stored =
+          subst
+          (λ x. Both (CellsRelated (cleanMany (cells ℕ) (t .cells) (o .dst) (vs (s .tape))))
+          (storeMany (cells ℕ) (s .cells) (o .dst) (vs (s .tape)))
+          (storeMany (cells ℕ) (u .cells) (o .dst) (vs x)))
+          (n .tape)
+          (many-stored (n .cells) (o .dst) (vs (s .tape)))
+
+  on-tape-store : (o : Operands) → Agreed e t tapeStore i s u o o
+  unfolding readSink taintsAfter operate
+  on-tape-store o =
+      record {
+        sinks = refl;
+        taints = refl;
+        next =
+            both-bind _ _ (span-read (n .cells) (o .op0) (o .op1)) λ vs ws h.
+            passed λ k.
+            let a : vs ≡ ws = h k in
+            let b = n .output in
+            let c = n .written in
+            tape-written n i (let d = n .tape in cc) (cc) (cc) refl (overlay-longer (s .output ++ vs) (s .written));
+      }
+
+  on-contract-call : (o : Operands) → Agreed e t contractCall i s u o o
+  unfolding readSink taintsAfter operate
+  on-contract-call o =
+      record {
+        sinks = refl;
+        taints = refl;
+        next =
+            both-bind _ _ (span-read (n .cells) (o .op0) 4) λ vs ws h.
+            passed λ k.
+            let a : vs ≡ ws = h k in
+            tape-written n i (let d = n .tape in cc) refl (n .written) (cc) (omega arith);
+      }
+
+  on-end : (o : Operands) → Agreed e t end i s u o o
+  unfolding readSink taintsAfter operate
+  on-end o = record { sinks = refl; taints = refl; next = passed λ k. tape-written n i (n .tape) (n .output) (n .written) refl (n .within) }
+
+  on-uncovered : (o : Operands) → Agreed e t uncovered i s u o o
+  unfolding readSink taintsAfter operate
+  on-uncovered o = record { sinks = refl; taints = refl; next = refused }

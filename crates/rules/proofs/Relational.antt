@@ -1,0 +1,76 @@
+-- How results that stand side by side go through the stages of a step and the steps of a run.
+use Prim.Native.Nat.{ℕ, suc}
+use mathlib.Core.Path.{_≡_, refl, ap, subst}
+use mathlib.Core.Bool.{Bool, true, false}
+use lib.Dec.{ltb}
+use Rattle.rules.specs.declared.Refusal.{Refusal}
+use Rattle.rules.specs.Numbers.{clockEnd}
+use Rattle.rules.specs.Results.{Result, refuse, pass, require, bind, Guarded, refuses, sink, passes, after, guard}
+use Rattle.rules.specs.Step.{Finish, goesOn, ends, calls, delegates, Ran, onClock, onFinish}
+use Rattle.rules.specs.Relations.{Both, refused, passed, BothGuarded, refused-alike, sink-alike, passed-alike, BothRan}
+
+-- Results
+
+pub both-same : {A : Type 0} {R : A → A → Type 0} → ((a : A) → R a a) → (r : Result A) → Both R r r
+both-same h (refuse f) = refused
+both-same h (pass a) = passed (h a)
+
+pub both-equal : {A : Type 0} {r q : Result A} → r ≡ q → Both (λ a b. a ≡ b) r q
+both-equal {r = r} e = subst (Both (λ a b. a ≡ b) r) e (both-same (λ a. refl) r)
+
+pub both-weaken : {A B : Type 0} {R S : A → B → Type 0} {r : Result A} {q : Result B} → ((a : A) (b : B) → R a b → S a b)
+    → Both R r q → Both S r q
+both-weaken h refused = refused
+both-weaken h (passed {a} {b} x) = passed (h a b x)
+
+pub both-bind : {A B C D : Type 0} {R : A → B → Type 0} {S : C → D → Type 0} {r : Result A} {q : Result B} (f : A → Result C) (g : B → Result D)
+    → Both R r q → ((a : A) (b : B) → R a b → Both S (f a) (g b)) → Both S (bind r f) (bind q g)
+unfolding bind
+both-bind f g refused h = refused
+both-bind f g (passed {a} {b} x) h = h a b x
+
+-- one test, equal on both sides, before related results
+pub both-require : {A B : Type 0} {R : A → B → Type 0} {b c : Bool} (f : Refusal) {r : Result A} {q : Result B} → b ≡ c → Both R r q
+    → Both R (require b f r) (require c f q)
+unfolding require
+both-require {R = R} {b = b} f {r} {q} e h = subst (λ c. Both R (require b f r) (require c f q)) e (go b)
+  where
+    go : (b : Bool) → Both R (require b f r) (require b f q)
+    go true = h
+    go false = refused
+
+-- Tainted steps
+
+pub both-after : {A B C D : Type 0} {R : A → B → Type 0} {S : C → D → Type 0} {r : Result A} {q : Result B} (f : A → Guarded C)
+    (g : B → Guarded D) → Both R r q → ((a : A) (b : B) → R a b → BothGuarded S (f a) (g b)) → BothGuarded S (after r f) (after q g)
+unfolding after
+both-after f g refused h = refused-alike
+both-after f g (passed {a} {b} x) h = h a b x
+
+pub both-guard : {A B : Type 0} {R : A → B → Type 0} {b c : Bool} {r : Guarded A} {q : Guarded B} → b ≡ c → BothGuarded R r q
+    → BothGuarded R (guard b r) (guard c q)
+unfolding guard
+both-guard {R = R} {b = b} {r = r} {q = q} e h = subst (λ c. BothGuarded R (guard b r) (guard c q)) e (go b)
+  where
+    go : (b : Bool) → BothGuarded R (guard b r) (guard b q)
+    go true = sink-alike
+    go false = h
+
+-- Runs: what follows an accepted step that leaves related states, the same clk and the same way to leave the run
+
+module _ {S T : Type 0} (R : S → T → Type 0) where
+  both-clock : (b : Bool) (s : S) (t : T) (r : Ran S) (q : Ran T) → R s t → BothRan R r q → BothRan R (onClock b s r) (onClock b t q)
+  both-clock true s t r q h k = record { answer = k .answer; steps = ap suc (k .steps); state = k .state }
+  both-clock false s t r q h k = record { answer = refl; steps = refl; state = h }
+
+  pub both-finish : {f g : Finish} {m n : ℕ} (s : S) (t : T) (k : S → Ran S) (l : T → Ran T) → f ≡ g → m ≡ n → R s t → BothRan R (k s) (l t)
+      → BothRan R (onFinish f m s k) (onFinish g n t l)
+  both-finish {f} {g} {m} {n} s t k l d e h r =
+      subst (λ g. BothRan R (onFinish f m s k) (onFinish g n t l)) d
+      (subst (λ n. BothRan R (onFinish f m s k) (onFinish f n t l)) e (go f))
+    where
+      go : (f : Finish) → BothRan R (onFinish f m s k) (onFinish f m t l)
+      go goesOn = both-clock (ltb m clockEnd) s t (k s) (l t) h r
+      go ends = record { answer = refl; steps = refl; state = h }
+      go (calls vs) = record { answer = refl; steps = refl; state = h }
+      go (delegates vs) = record { answer = refl; steps = refl; state = h }

@@ -1,0 +1,120 @@
+-- Demand 3, as one statement about whole calls: entry refusals, every program, budget and start.
+use Prim.Native.Nat.{ℕ, _<_}
+use mathlib.Core.Path.{_≡_}
+use mathlib.Core.Bool.{Bool, true, false}
+use mathlib.Core.List.{List, []}
+use mathlib.Core.Logic.{_↔_}
+use lib.ListN.{length, getD}
+use Rattle.rules.specs.declared.Instruction.{Instruction}
+use Rattle.rules.specs.declared.Refusal.the-variants.{BadState}
+use Rattle.rules.specs.Numbers.{p}
+use Rattle.rules.specs.Results.{Result, refuse, pass}
+use Rattle.rules.specs.Cells.{cells, get, zipped}
+use Rattle.rules.specs.Step.{State}
+use Rattle.rules.specs.Taint.{registerTaint, slotTaint}
+use Rattle.rules.specs.Answers.{Meaning, outcome, refusal}
+use Rattle.rules.specs.Entry.{Snapshot, TaintedSnapshot, usedAddresses, usedNumbers, usedTape, usedOutput, usedTaints, taintedRegisters, taintedCells, taintEntry, taintedEntry, environment, stateOf}
+use Rattle.rules.specs.Calls.{Called, refused}
+use Rattle.rules.specs.TaintRules.{Place, register, cell, Tainting}
+use Rattle.rules.specs.SinkRules.{ReachesUse, Comes}
+
+-- 'Marked': a register, or a used cell, whose mark is 1; each tainted number of a snapshot is below p
+pub record TaintedBelow (g : TaintedSnapshot) : Type 0 where
+  pub registers : (r : ℕ) → getD (taintedRegisters g) r false ≡ true → getD (g .plain .machine .registers) r 0 < p
+  pub cells : (i : ℕ) → getD (taintedCells g) i false ≡ true → getD (usedNumbers (g .plain)) i 0 < p
+
+-- two numbers at one place: equal where it is untainted, any two where it is tainted
+abbrev pub EqualUnless : Bool → ℕ → ℕ → Type 0
+EqualUnless true v w = Unit {0}
+EqualUnless false v w = v ≡ w
+
+-- 'Alike', with the numbers at each place related under the place's taint
+pub record Agree (R : Bool → ℕ → ℕ → Type 0) (g h : TaintedSnapshot) : Type 0 where
+  pub pc : g .plain .machine .pc ≡ h .plain .machine .pc
+  pub clk : g .plain .machine .clk ≡ h .plain .machine .clk
+  pub psp : g .plain .machine .psp ≡ h .plain .machine .psp
+  pub storage : g .plain .machine .«storage_addr» ≡ h .plain .machine .«storage_addr»
+  -- counts, and lengths
+  pub cellCount : g .plain .machine .«cell_count» ≡ h .plain .machine .«cell_count»
+  pub tapeCount : g .plain .machine .«tape_count» ≡ h .plain .machine .«tape_count»
+  pub outputCount : g .plain .machine .«output_count» ≡ h .plain .machine .«output_count»
+  pub addressLength : length (g .plain .addresses) ≡ length (h .plain .addresses)
+  pub numberLength : length (g .plain .numbers) ≡ length (h .plain .numbers)
+  pub taintLength : length (g .taints) ≡ length (h .taints)
+  pub tapeLength : length (g .plain .tape) ≡ length (h .plain .tape)
+  pub outputLength : length (g .plain .output) ≡ length (h .plain .output)
+  -- each buffer as far as its count and its length go; nothing is said of what lies beyond
+  pub addresses : usedAddresses (g .plain) ≡ usedAddresses (h .plain)
+  pub taints : usedTaints g ≡ usedTaints h
+  pub tape : usedTape (g .plain) ≡ usedTape (h .plain)
+  pub output : usedOutput (g .plain) ≡ usedOutput (h .plain)
+  pub numbers : (i : ℕ) → R (getD (taintedCells g) i false) (getD (usedNumbers (g .plain)) i 0) (getD (usedNumbers (h .plain)) i 0)
+  -- the ten registers
+  pub registerTaints : g .registerTaints ≡ h .registerTaints
+  pub ten : (length (g .plain .machine .registers) ≡ 10) × (length (h .plain .machine .registers) ≡ 10)
+  pub registers : (r : ℕ) → R (getD (taintedRegisters g) r false) (getD (g .plain .machine .registers) r 0) (getD (h .plain .machine .registers) r 0)
+
+-- 'Alike'
+abbrev pub LowEquivalent : TaintedSnapshot → TaintedSnapshot → Type 0
+LowEquivalent g h = Agree EqualUnless g h
+
+-- the same answer with all that it carries, the same steps, and what is left alike
+pub record SameCalls (c d : Called TaintedSnapshot) : Type 0 where
+  pub answer : c .answer ≡ d .answer
+  pub steps : c .steps ≡ d .steps
+  pub left : LowEquivalent (c .left) (d .left)
+
+-- the call meets 18
+abbrev pub MeetsSink : Called TaintedSnapshot → Type 0
+MeetsSink c = c .answer ≡ refusal 18 []
+
+-- a call without its taints
+abbrev pub untainted : Called TaintedSnapshot → Called Snapshot
+untainted c = record { answer = c .answer; steps = c .steps; left = c .left .plain }
+
+-- e3 after k steps
+abbrev pub pausedAfter : ℕ → Snapshot → Called Snapshot
+pausedAfter k s = record { answer = outcome 3 []; steps = k; left = s }
+
+-- the taints that a snapshot starts with
+abbrev pub startTaints : TaintedSnapshot → Tainting
+startTaints g (register r) = registerTaint (taintedRegisters g) r
+startTaints g (cell a) = slotTaint (cells ℕ) (get (zipped (usedAddresses (g .plain)) (usedTaints g)) a)
+
+-- the call passes entry, comes to a state after k steps, and the next step reaches a listed use
+pub data Reaches : Result (List Instruction) → TaintedSnapshot → ℕ → Type 0 where
+  reaches : {program : List Instruction} {g : TaintedSnapshot} {k : ℕ} {s : State (cells ℕ)} {t : Tainting}
+      → taintedEntry g ≡ true
+      → Comes (environment program (g .plain)) (stateOf (g .plain)) (startTaints g) k s t
+      → ReachesUse (environment program (g .plain)) s t
+      → Reaches (pass program) g k
+
+-- no number of a snapshot is tainted
+pub record Untainted (g : TaintedSnapshot) : Type 0 where
+  pub registers : (r : ℕ) → getD (taintedRegisters g) r false ≡ false
+  pub cells : (i : ℕ) → getD (taintedCells g) i false ≡ false
+
+-- Of a program as loaded, with a budget: the tainted call beside itself and beside the plain call
+pub record NonInterference
+    (program : Result (List Instruction))
+    (budget : ℕ)
+    (tainted : TaintedSnapshot → Called TaintedSnapshot)
+    (plain : ℕ → Snapshot → Called Snapshot)
+    : Type 0 where
+  -- two that start alike but for their tainted numbers, each below p, give the same answer and end alike
+  pub agrees : (g h : TaintedSnapshot) → LowEquivalent g h → TaintedBelow g → TaintedBelow h → SameCalls (tainted g) (tainted h)
+  -- one that does not meet 18 is the plain call
+  pub transparent : (g : TaintedSnapshot) → taintEntry g ≡ true → (MeetsSink (tainted g) → ⊥)
+      → untainted (tainted g) ≡ plain budget (g .plain)
+  -- one whose taints an entry refuses is refused 3 and leaves everything, unless the program is refused
+  pub unfit : (g : TaintedSnapshot) → taintEntry g ≡ false → {instructions : List Instruction} → program ≡ pass instructions
+      → tainted g ≡ refused BadState g
+  -- one that meets 18 after k steps: k is below the budget, and it leaves what the plain call with budget k leaves, which is paused
+  pub stopsEarly : (g : TaintedSnapshot) → MeetsSink (tainted g)
+      → (tainted g .steps < budget)
+      × (plain (tainted g .steps) (g .plain) ≡ pausedAfter (tainted g .steps) (tainted g .left .plain))
+  -- 18 after k steps exactly where the step after k steps reaches a listed use
+  pub exact : (g : TaintedSnapshot) (k : ℕ)
+      → (MeetsSink (tainted g) × (tainted g .steps ≡ k)) ↔ ((k < budget) × Reaches program g k)
+  -- a start with no taints never meets 18
+  pub clean : (g : TaintedSnapshot) → Untainted g → MeetsSink (tainted g) → ⊥

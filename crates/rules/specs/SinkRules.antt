@@ -1,0 +1,100 @@
+-- Document 01's list of uses, item by item, and what it is for a step to reach one.
+use Prim.Native.Nat.{ℕ, suc, _+_, _-_, _≤_, _<_}
+use mathlib.Core.Path.{_≡_}
+use mathlib.Core.Bool.{Bool, true}
+use mathlib.Core.List.{List}
+use Rattle.rules.specs.declared.OlaOpcode.{OlaOpcode}
+use Rattle.rules.specs.declared.OlaOpcode.the-variants as O
+use Rattle.rules.specs.declared.Instruction.{Instruction}
+use Rattle.rules.specs.Numbers.{clockEnd}
+use Rattle.rules.specs.Results.{pass}
+use Rattle.rules.specs.Cells.{cells}
+use Rattle.rules.specs.Opcodes.{classOf}
+use Rattle.rules.specs.Operands.{fetch, valueOf, Operands, operands}
+use Rattle.rules.specs.Step.{Environment, State, Next, goesOn, r9, readBelow, readSpan, step}
+use Rattle.rules.specs.TaintRules.{Place, register, cell, Tainting, OperandTainted, TaintedAfter}
+
+-- the opcodes that the list names together
+pub data Addressing : OlaOpcode → Type 0 where
+  mload : Addressing O.Mload
+  mstore : Addressing O.Mstore
+
+pub data SmallOperands : OlaOpcode → Type 0 where
+  and : SmallOperands O.And
+  or : SmallOperands O.Or
+  xor : SmallOperands O.Xor
+  gte : SmallOperands O.Gte
+
+pub data UsesOp1 : OlaOpcode → Type 0 where
+  assert : UsesOp1 O.Assert
+  rc : UsesOp1 O.Rc
+  jmp : UsesOp1 O.Jmp
+  call : UsesOp1 O.Call
+
+pub data UsesR9 : OlaOpcode → Type 0 where
+  call : UsesR9 O.Call
+  ret : UsesR9 O.Ret
+
+pub data UsesTape : OlaOpcode → Type 0 where
+  tload : UsesTape O.Tload
+  tstore : UsesTape O.Tstore
+  sccall : UsesTape O.Sccall
+
+module _ (t : Tainting) (i : Instruction) where
+  abbrev Op0 : Type 0
+  Op0 = OperandTainted t (i .op0) true
+
+  abbrev Op1 : Type 0
+  Op1 = OperandTainted t (i .op1) true
+
+  -- the uses that come right after the operands
+  pub data OperandUse : OlaOpcode → Type 0 where
+    address-op0 : {c : OlaOpcode} → Addressing c → Op0 → OperandUse c
+    address-op1 : {c : OlaOpcode} → Addressing c → Op1 → OperandUse c
+    small-op0 : {c : OlaOpcode} → SmallOperands c → Op0 → OperandUse c
+    small-op1 : {c : OlaOpcode} → SmallOperands c → Op1 → OperandUse c
+    op1 : {c : OlaOpcode} → UsesOp1 c → Op1 → OperandUse c
+    -- just before its test
+    cjmp-op0 : Op0 → OperandUse O.Cjmp
+    r9-itself : {c : OlaOpcode} → UsesR9 c → t (register 9) ≡ true → OperandUse c
+    -- all operands that TLOAD, TSTORE and SCCALL read
+    tape-op0 : {c : OlaOpcode} → UsesTape c → Op0 → OperandUse c
+    tape-op1 : {c : OlaOpcode} → UsesTape c → Op1 → OperandUse c
+    tload-dst : OperandTainted t (i .dst) true → OperandUse O.Tload
+
+  -- the uses that come later: CJMP's op1 after the test and its evaluation; cells and RET's pc after all reads are found
+  pub data ReadUse (e : Environment) (s : State (cells ℕ)) (o : Operands) : OlaOpcode → Type 0 where
+    cjmp-op1 : {v : ℕ} → o .op0 ≤ 1 → valueOf (e .psp) (s .registers) (i .op1) ≡ pass v → Op1 → ReadUse e s o O.Cjmp
+    tstore-cell : {vs : List ℕ} → readSpan (cells ℕ) (s .cells) (o .op0) (o .op1) ≡ pass vs
+        → (a : ℕ) → o .op0 ≤ a → a < o .op0 + o .op1 → t (cell a) ≡ true → ReadUse e s o O.Tstore
+    sccall-cell : {vs : List ℕ} → readSpan (cells ℕ) (s .cells) (o .op0) 4 ≡ pass vs
+        → (a : ℕ) → o .op0 ≤ a → a < o .op0 + 4 → t (cell a) ≡ true → ReadUse e s o O.Sccall
+    ret-pc : {v w : ℕ} → readBelow (cells ℕ) (s .cells) (r9 (cells ℕ) s) 1 ≡ pass v → readBelow (cells ℕ) (s .cells) (r9 (cells ℕ) s) 2 ≡ pass w
+        → t (cell (r9 (cells ℕ) s - 1)) ≡ true → ReadUse e s o O.Ret
+
+-- the step of an instruction, as fetched and with its operands as read
+pub record Fetched (e : Environment) (s : State (cells ℕ)) (i : Instruction) (o : Operands) : Type 0 where
+  pub fetched : fetch (e .program) (s .pc) ≡ pass i
+  pub read : operands (e .psp) (s .registers) (classOf (i .opcode)) i ≡ pass o
+
+-- the step from a state reaches a listed use: nothing before the use refuses it
+pub data ReachesUse (e : Environment) (s : State (cells ℕ)) (t : Tainting) : Type 0 where
+  operand : {i : Instruction} {o : Operands} → Fetched e s i o → OperandUse t i (i .opcode) → ReachesUse e s t
+  reading : {i : Instruction} {o : Operands} → Fetched e s i o → (OperandUse t i (i .opcode) → ⊥)
+      → ReadUse t i e s o (i .opcode) → ReachesUse e s t
+
+-- an accepted step that lets the run go on: the plain step, at no listed use, with the taints that the rules give
+pub record Accepted (e : Environment) (s : State (cells ℕ)) (t : Tainting) (s′ : State (cells ℕ)) (t′ : Tainting) : Type 0 where
+  pub instruction : Instruction
+  pub operands : Operands
+  pub fetched : Fetched e s instruction operands
+  pub unused : ReachesUse e s t → ⊥
+  pub next : step (cells ℕ) e s ≡ pass (record { state = s′; finish = goesOn })
+  pub clock : s′ .clk < clockEnd
+  pub taints : (x : Place) → TaintedAfter t instruction s operands (instruction .opcode) x (t′ x)
+
+-- the tainted run comes to a state after k steps
+pub data Comes (e : Environment) : State (cells ℕ) → Tainting → ℕ → State (cells ℕ) → Tainting → Type 0 where
+  start : {s : State (cells ℕ)} {t : Tainting} → Comes e s t 0 s t
+  onward : {s s′ s″ : State (cells ℕ)} {t t′ t″ : Tainting} {k : ℕ}
+      → Accepted e s t s′ t′ → Comes e s′ t′ k s″ t″ → Comes e s t (suc k) s″ t″

@@ -1,0 +1,189 @@
+//! Where the source differs from document 01, found again by running it.
+
+use std::str::FromStr;
+
+use ola_core::program::binary_program::BinaryProgram;
+use ola_core::vm::hardware::{ExeContext, OlaTape};
+use ola_core::vm::opcodes::OlaOpcode;
+use ola_core::vm::operands::ImmediateValue;
+use ola_executor::config::ExecuteMode;
+use ola_executor::Executor;
+use oracle::case::{end, frame};
+use oracle::differences::differences;
+use oracle::domain::{HEAP_END, P, STACK_END};
+use oracle::frames::{Frame, Operand};
+use oracle::outcome::{Answer, Failure, Outcome};
+use oracle::state::State;
+use oracle::stepper::Stepper;
+
+/// What the source does with the difference of this name.
+fn run(name: &str) -> (Answer, State) {
+    let difference = differences()
+        .into_iter()
+        .find(|difference| difference.case.name == name)
+        .unwrap();
+    let case = difference.case;
+    let mut stepper = Stepper::new(&case.program, &case.start, difference.mode);
+    let answer = stepper.run(case.budget);
+    (answer, stepper.state())
+}
+
+fn accepted(name: &str) -> State {
+    let (answer, state) = run(name);
+    assert_eq!(answer.outcome, Outcome::Paused, "{name}");
+    state
+}
+
+fn failed(name: &str) -> (Failure, State) {
+    match run(name) {
+        (answer, state) if answer.steps == 0 => match answer.outcome {
+            Outcome::Failed(failure) => (failure, state),
+            other => panic!("{name}: {other:?}"),
+        },
+        (answer, _) => panic!("{name}: {answer:?}"),
+    }
+}
+
+#[test]
+fn a_refused_store_leaves_pc_moved() {
+    let (failure, state) = failed("pc moved after a refused mstore");
+    assert_eq!((failure.refusal(), state.pc), (Some(14), 2));
+    let (failure, state) = failed("pc moved after a refused call");
+    assert_eq!((failure.refusal(), state.pc), (Some(14), 7));
+}
+
+#[test]
+fn a_refused_tload_leaves_earlier_cells() {
+    let (failure, state) = failed("earlier cells of a refused tload written, pc moved");
+    assert_eq!(failure.refusal(), Some(14));
+    assert_eq!(state.cells, [(0, 1)].into());
+}
+
+#[test]
+fn prophet_stores_go_to_psp() {
+    let state = accepted("mstore to the prophet region goes to psp");
+    assert_eq!(state.cells, [(HEAP_END, 7)].into());
+    let state = accepted("call in the prophet region");
+    assert_eq!(state.cells, [(HEAP_END, 2)].into());
+    assert_eq!(accepted("a prophet cell is read back").registers[2], 7);
+
+    let (failure, state) = failed("tload from the prophet region over p");
+    assert_eq!(failure.refusal(), Some(14));
+    assert_eq!(state.cells, [(HEAP_END, 1)].into());
+}
+
+#[test]
+fn operands_not_below_p_are_accepted() {
+    assert_eq!(accepted("add of p").registers[1], 0);
+    assert_eq!(accepted("mul of p+1").registers[1], 2);
+    assert_eq!(accepted("not of p").registers[1], P - 1);
+    assert_eq!(accepted("mload at p").registers[1], 5);
+    assert_eq!(accepted("mstore at p").cells, [(0, 0)].into());
+    assert_eq!(accepted("register of p plus offset").registers[1], 1);
+    assert_eq!(accepted("offset of p").registers[1], 0);
+    assert_eq!(accepted("factor of p+1").registers[1], 3);
+}
+
+#[test]
+fn the_other_opcodes_run() {
+    accepted("poseidon, with a stand-in for the hash");
+    accepted("sload");
+    accepted("sigcheck, with a stand-in for the check");
+    let (failure, _) = failed("sstore is an error of the mode without traces");
+    assert_eq!(failure.kind, "StorageStoreOnCallError");
+    let (failure, _) = failed("event is an error of the mode without traces");
+    assert_eq!(failure.kind, "EventOnCallError");
+    accepted("traced sstore");
+    accepted("traced event");
+}
+
+#[test]
+fn assert_without_a_register_panics() {
+    let (answer, _) = run("assert of an immediate");
+    let message = "not yet implemented".to_string();
+    assert_eq!(answer.outcome, Outcome::Panicked(message));
+}
+
+#[test]
+fn addresses_wrap() {
+    assert!(accepted("tload to 2^64-1 writes nothing").cells.is_empty());
+
+    let (answer, _) = run("tstore of a length that wraps");
+    let message = "capacity overflow".to_string();
+    assert_eq!(answer.outcome, Outcome::Panicked(message));
+
+    // The source tells these like 11, document 01 says 12.
+    for name in ["tstore up to 2^64", "sccall up to 2^64"] {
+        let (failure, _) = failed(name);
+        assert!(failure.message.contains("batch read from invalid address"));
+    }
+}
+
+#[test]
+fn nothing_is_limited() {
+    assert_eq!(accepted("one cell too many").cells.len(), 2049);
+    assert_eq!(accepted("one tape value too many").tape.len(), 4097);
+    assert_eq!(accepted("one output value too many").output.len(), 4097);
+    accepted("a start with a cell above p");
+    let (answer, _) = run("a clock at its limit");
+    assert_eq!(answer.steps, 1);
+    let (answer, _) = run("end from a clock at its limit");
+    assert_eq!(answer.outcome, Outcome::Ended(vec![]));
+}
+
+#[test]
+fn the_source_begins_with_a_heap_cell() {
+    let program = [
+        frame(
+            OlaOpcode::MOV,
+            Operand::Absent,
+            Operand::Immediate(STACK_END),
+            Operand::Register(0),
+        ),
+        frame(
+            OlaOpcode::MLOAD,
+            Operand::Register(0),
+            Operand::Immediate(0),
+            Operand::Register(1),
+        ),
+        end(),
+    ];
+    let executor = Executor::new(
+        ExecuteMode::Call,
+        ExeContext::default(),
+        encoded(&program).unwrap(),
+    )
+    .unwrap();
+    let mut stepper = Stepper::around(executor, OlaTape::default());
+    assert_eq!(stepper.run(3).outcome, Outcome::Ended(vec![]));
+    assert_eq!(stepper.state().registers[1], STACK_END + 1);
+}
+
+#[test]
+fn the_source_decodes_no_immediate_from_p_on() {
+    let below = ImmediateValue::from_str("0xffffffff00000000");
+    assert_eq!(below.unwrap().to_u64(), Ok(P - 1));
+    let at_p = ImmediateValue::from_str("0xffffffff00000001");
+    assert_eq!(at_p.unwrap_err(), "Immediate overflow: 0xffffffff00000001");
+
+    let mov_p = frame(
+        OlaOpcode::MOV,
+        Operand::Absent,
+        Operand::Immediate(P),
+        Operand::Register(0),
+    );
+    let new = Executor::new(
+        ExecuteMode::Call,
+        ExeContext::default(),
+        encoded(&[mov_p]).unwrap(),
+    );
+    let failure = Failure::new(&new.err().unwrap());
+    assert_eq!(failure.kind, "InstructionsInitError");
+    assert_eq!(failure.message, "Immediate overflow: 0xffffffff00000001");
+}
+
+/// The source's own form of a program.
+fn encoded(program: &[Frame]) -> Result<BinaryProgram, String> {
+    let instructions = program.iter().map(Frame::instruction).collect();
+    BinaryProgram::from_instructions(instructions, None, false)
+}

@@ -1,0 +1,125 @@
+//! The mode with traces.
+
+use ola_core::vm::opcodes::OlaOpcode;
+use oracle::case::{end, frame, Case};
+use oracle::frames::Operand;
+use oracle::outcome::Outcome;
+use oracle::stepper::{Mode, Stepper};
+
+const ABSENT: Operand = Operand::Absent;
+const R1: Operand = Operand::Register(1);
+const R2: Operand = Operand::Register(2);
+
+#[test]
+fn each_step_adds_a_row_with_the_clock_before_it() {
+    let case = Case::new(
+        "",
+        &[
+            frame(OlaOpcode::ADD, R1, R1, R2),
+            frame(OlaOpcode::NOT, ABSENT, R2, R1),
+            end(),
+        ],
+    )
+    .register(1, 3)
+    .clk(40);
+    let mut stepper = Stepper::new(&case.program, &case.start, Mode::Traced);
+    assert_eq!(stepper.run(10).outcome, Outcome::Ended(vec![]));
+
+    let rows: Vec<_> = stepper.traces().iter().map(|step| &step.cpu[0]).collect();
+    let clks: Vec<_> = rows.iter().map(|row| row.clk).collect();
+    assert_eq!(clks, [40, 41, 42]);
+    assert_eq!(
+        (rows[0].op0, rows[0].op1, rows[0].dst),
+        (Some(3), Some(3), Some(6))
+    );
+    assert_eq!((rows[1].pc, rows[1].registers[2]), (1, 6));
+    assert_eq!((rows[2].op0, rows[2].op1, rows[2].dst), (None, None, None));
+}
+
+#[test]
+fn no_rows_without_traces() {
+    let mut stepper = Stepper::new(&[end()], &Case::new("", &[]).start, Mode::Plain);
+    stepper.step();
+    assert!(stepper.traces().is_empty());
+}
+
+#[test]
+fn a_traced_mload_shows_the_register_of_its_op1() {
+    let factor = Operand::Factor(1, 3);
+    let case = Case::new("", &[frame(OlaOpcode::MLOAD, R2, factor, R1)])
+        .register(1, 2)
+        .cells(6, &[9]);
+    let mut stepper = Stepper::new(&case.program, &case.start, Mode::Traced);
+    assert_eq!(stepper.step().steps, 1);
+    assert_eq!(stepper.traces()[0].cpu[0].op1, Some(2));
+}
+
+/// As document 02 wants them: op0, op1 and dst as `get_common_cpu_exe_pieces` receives them.
+#[test]
+fn which_operands_a_row_shows() {
+    let (none, all) = ((false, false, false), (true, true, true));
+    let only_op1 = (false, true, false);
+    for (opcode, op0, op1, dst, shown) in [
+        (OlaOpcode::ADD, R2, R1, R1, all),
+        (OlaOpcode::MLOAD, R2, R1, R1, all),
+        (OlaOpcode::MSTORE, R2, R1, R1, all),
+        (OlaOpcode::NOT, ABSENT, R1, R1, (false, true, true)),
+        (OlaOpcode::MOV, ABSENT, R1, R1, (false, true, true)),
+        (OlaOpcode::ASSERT, ABSENT, R1, ABSENT, only_op1),
+        (OlaOpcode::RC, ABSENT, R1, ABSENT, only_op1),
+        (OlaOpcode::JMP, ABSENT, R1, ABSENT, only_op1),
+        (OlaOpcode::CJMP, R1, R1, ABSENT, only_op1),
+        (OlaOpcode::CALL, ABSENT, R1, ABSENT, only_op1),
+        (OlaOpcode::RET, ABSENT, ABSENT, ABSENT, none),
+        (OlaOpcode::END, ABSENT, ABSENT, ABSENT, none),
+        (OlaOpcode::TLOAD, R1, R1, R1, (true, true, false)),
+        (OlaOpcode::TSTORE, R1, R1, ABSENT, (true, true, false)),
+        (OlaOpcode::SCCALL, R1, R1, ABSENT, (true, true, false)),
+    ] {
+        let case = Case::new("", &[frame(opcode, op0, op1, dst)])
+            .register(1, 1)
+            .register(9, 2)
+            .cells(0, &[0; 8])
+            .tape(&[0; 2]);
+        let mut stepper = Stepper::new(&case.program, &case.start, Mode::Traced);
+        assert_eq!(stepper.step().steps, 1, "{opcode}");
+        let row = &stepper.traces()[0].cpu[0];
+        let present = (row.op0.is_some(), row.op1.is_some(), row.dst.is_some());
+        assert_eq!(present, shown, "{opcode}");
+    }
+}
+
+#[test]
+fn a_traced_call_reads_below_the_return_pc() {
+    let call = frame(OlaOpcode::CALL, ABSENT, Operand::Immediate(7), ABSENT);
+    let case = Case::new("", &[call]).register(9, 2);
+    let mut untraced = Stepper::new(&case.program, &case.start, Mode::Plain);
+    assert_eq!(untraced.step().steps, 1);
+
+    // With R9 = 0 the read fails too, before the store that would be refused 14.
+    for case in [case.clone(), case.register(9, 0)] {
+        let mut traced = Stepper::new(&case.program, &case.start, Mode::Traced);
+        match traced.step().outcome {
+            Outcome::Failed(failure) => assert_eq!(failure.refusal(), Some(11)),
+            other => panic!("{other:?}"),
+        }
+        assert_eq!(traced.state(), case.start);
+    }
+}
+
+#[test]
+fn an_ignored_operand_without_encoding_fails_the_step() {
+    let odd_end = frame(OlaOpcode::END, Operand::Pc, ABSENT, ABSENT);
+    let start = Case::new("", &[]).start;
+    let mut untraced = Stepper::new(&[odd_end], &start, Mode::Plain);
+    assert_eq!(untraced.step().outcome, Outcome::Ended(vec![]));
+
+    let mut traced = Stepper::new(&[odd_end], &start, Mode::Traced);
+    match traced.step().outcome {
+        Outcome::Failed(failure) => assert_eq!(
+            failure.message,
+            "BinaryInstruction: get_inst_imm_u64 error."
+        ),
+        other => panic!("{other:?}"),
+    }
+}
