@@ -1,5 +1,5 @@
 -- The laws of the rising list as a map, over any content of a cell.
-use Prim.Native.Nat.{ℕ, zero, suc, _≤_, _<_}
+use Prim.Native.Nat.{ℕ, suc, _≤_, _<_}
 use mathlib.Core.Path.{_≡_, refl, sym, ap, subst, _∙_}
 use mathlib.Core.Bool.{Bool, true, false}
 use mathlib.Core.List.{List, [], _∷_}
@@ -8,7 +8,7 @@ use lib.Dec.{ltb, leb, eqb}
 use lib.ListN.{length}
 use borrow.Author.Tests.{ltb-true, ltb-false, leb-true, eqb-true, eqb-false, eq-eqb, ne-eqb}
 use Rattle.rules.specs.Numbers.{heapEnd, choose}
-use Rattle.rules.specs.Memory.{Slot, absent, present}
+use Rattle.rules.specs.Memory.{absent, present}
 use Rattle.rules.specs.Cells.{Cells, none, cell, get, put, count, addresses, contents, zipped, RisingFrom, Rising}
 use Rattle.rules.specs.PlainMap.{isPresent}
 use Rattle.rules.specs.Entry.{risingFrom}

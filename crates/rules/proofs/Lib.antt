@@ -5,3 +5,12 @@ pub mod BoolLaws
 pub mod CellLaws
 pub mod LowStates
 pub mod LowSteps
+pub mod PlainMapAgreement
+pub mod TaintedMapAgreement
+pub mod LowRuns
+pub mod TaintedBesidePlain
+pub mod Unfolding
+pub mod CasesHold
+pub mod DecodedRegisters
+pub mod OverlayLaws
+pub mod EntryLaws

@@ -143,10 +143,10 @@ bit-below false = let h : 1 < p = one-below in omega arith
 complement-below : (n : ℕ) → fieldComplement n < p
 complement-below n = let h : 1 < p = one-below in omega arith
 
-operands-equal : {o q : Operands} → o .op0 ≡ q .op0 → o .op1 ≡ q .op1 → o .dst ≡ q .dst → o ≡ q
+pub operands-equal : {o q : Operands} → o .op0 ≡ q .op0 → o .op1 ≡ q .op1 → o .dst ≡ q .dst → o ≡ q
 operands-equal a b c = λ i. record { op0 = a i; op1 = b i; dst = c i }
 
-or-both : {a b : Bool} → a ≡ false → b ≡ false → (a || b) ≡ false
+pub or-both : {a b : Bool} → a ≡ false → b ≡ false → (a || b) ≡ false
 or-both {a} {b} h k = rw (h, k)
 
 overlay-longer : (a b : List ℕ) → length a ≤ length (overlay a b)
@@ -160,7 +160,7 @@ module _ (e : Environment) (t : Taints (cells ℕ)) (i : Instruction) {s u : Sta
 
   -- classes without sinks: tainted operands go into the result
 
-  on-field : (f : ℕ → ℕ → ℕ) → ((a b : ℕ) → f a b < p) → {o q : Operands} → OperandsRelated t (field f) i o q → Agreed e t (field f) i s u o q
+  pub on-field : (f : ℕ → ℕ → ℕ) → ((a b : ℕ) → f a b < p) → {o q : Operands} → OperandsRelated t (field f) i o q → Agreed e t (field f) i s u o q
   unfolding readSink taintsAfter operate wantsOf
   on-field f l {o} {q} r =
       let z : o .dst ≡ q .dst = untainted refl (r .dst) in
@@ -174,7 +174,7 @@ module _ (e : Environment) (t : Taints (cells ℕ)) (i : Instruction) {s u : Sta
             (passed λ k. register-written n (next-pc n i) (o .dst) (related-both f l (r .op0) (r .op1))));
       })
 
-  on-equality : (f : Bool → Bool) {o q : Operands} → OperandsRelated t (equality f) i o q → Agreed e t (equality f) i s u o q
+  pub on-equality : (f : Bool → Bool) {o q : Operands} → OperandsRelated t (equality f) i o q → Agreed e t (equality f) i s u o q
   unfolding readSink taintsAfter operate wantsOf
   on-equality f {o} {q} r =
       let z : o .dst ≡ q .dst = untainted refl (r .dst) in
@@ -186,7 +186,7 @@ module _ (e : Environment) (t : Taints (cells ℕ)) (i : Instruction) {s u : Sta
             register-written n (next-pc n i) (o .dst) (related-both (λ a b. bit (f (eqb a b))) (λ a b. bit-below (f (eqb a b))) (r .op0) (r .op1));
       })
 
-  on-complement : {o q : Operands} → OperandsRelated t complement i o q → Agreed e t complement i s u o q
+  pub on-complement : {o q : Operands} → OperandsRelated t complement i o q → Agreed e t complement i s u o q
   unfolding readSink taintsAfter operate wantsOf
   on-complement {o} {q} r =
       let z : o .dst ≡ q .dst = untainted refl (r .dst) in
@@ -199,7 +199,7 @@ module _ (e : Environment) (t : Taints (cells ℕ)) (i : Instruction) {s u : Sta
             (passed λ k. register-written n (next-pc n i) (o .dst) (related-one fieldComplement complement-below (r .op1)));
       })
 
-  on-move : {o q : Operands} → OperandsRelated t move i o q → Agreed e t move i s u o q
+  pub on-move : {o q : Operands} → OperandsRelated t move i o q → Agreed e t move i s u o q
   unfolding readSink taintsAfter operate wantsOf
   on-move {o} {q} r =
       let z : o .dst ≡ q .dst = untainted refl (r .dst) in
@@ -208,7 +208,7 @@ module _ (e : Environment) (t : Taints (cells ℕ)) (i : Instruction) {s u : Sta
 
   -- classes whose operands are untainted past the sinks: both have the same
 
-  on-small : (f : ℕ → ℕ → ℕ) (o : Operands) → (operandTaint (t .registers) (i .op0) || operandTaint (t .registers) (i .op1)) ≡ false
+  pub on-small : (f : ℕ → ℕ → ℕ) (o : Operands) → (operandTaint (t .registers) (i .op0) || operandTaint (t .registers) (i .op1)) ≡ false
       → Agreed e t (small f) i s u o o
   unfolding readSink taintsAfter operate
   on-small f o k =
@@ -218,21 +218,21 @@ module _ (e : Environment) (t : Taints (cells ℕ)) (i : Instruction) {s u : Sta
         next = both-require NotSmall refl (both-require NotSmall refl (passed λ _. register-written n (next-pc n i) (o .dst) (equally k refl)));
       }
 
-  on-assert : (o : Operands) → Agreed e t assert i s u o o
+  pub on-assert : (o : Operands) → Agreed e t assert i s u o o
   unfolding readSink taintsAfter operate
   on-assert o =
       record { sinks = refl; taints = refl; next = both-require AssertFailed refl (passed λ k. cells-written n (next-pc n i) (n .cells)) }
 
-  on-range : (o : Operands) → Agreed e t rangeCheck i s u o o
+  pub on-range : (o : Operands) → Agreed e t rangeCheck i s u o o
   unfolding readSink taintsAfter operate
   on-range o =
       record { sinks = refl; taints = refl; next = both-require RangeCheckFailed refl (passed λ k. cells-written n (next-pc n i) (n .cells)) }
 
-  on-jump : (o : Operands) → Agreed e t jump i s u o o
+  pub on-jump : (o : Operands) → Agreed e t jump i s u o o
   unfolding readSink taintsAfter operate
   on-jump o = record { sinks = refl; taints = refl; next = passed λ k. cells-written n refl (n .cells) }
 
-  on-conditional : (o : Operands) → Agreed e t conditionalJump i s u o o
+  pub on-conditional : (o : Operands) → Agreed e t conditionalJump i s u o o
   unfolding readSink taintsAfter operate
   on-conditional o =
       record {
@@ -248,7 +248,7 @@ module _ (e : Environment) (t : Taints (cells ℕ)) (i : Instruction) {s u : Sta
       go true h = h
       go false h = next-pc n i
 
-  on-call : (o : Operands) → registerTaint (t .registers) 9 ≡ false → Agreed e t call i s u o o
+  pub on-call : (o : Operands) → registerTaint (t .registers) 9 ≡ false → Agreed e t call i s u o o
   unfolding readSink taintsAfter operate
   on-call o k =
       let d : r9 (cells ℕ) s ≡ r9 (cells ℕ) u = r9-equal k in
@@ -270,7 +270,7 @@ module _ (e : Environment) (t : Taints (cells ℕ)) (i : Instruction) {s u : Sta
           d
           (one-stored (n .cells) (r9 (cells ℕ) s - 1) false (equal (next-pc n i)))
 
-  on-return : (o : Operands) → registerTaint (t .registers) 9 ≡ false → Agreed e t return i s u o o
+  pub on-return : (o : Operands) → registerTaint (t .registers) 9 ≡ false → Agreed e t return i s u o o
   unfolding readSink taintsAfter operate
   on-return o k =
       let d : r9 (cells ℕ) s ≡ r9 (cells ℕ) u = r9-equal k in
@@ -295,7 +295,7 @@ module _ (e : Environment) (t : Taints (cells ℕ)) (i : Instruction) {s u : Sta
           d
           (below-read (n .cells) (r9 (cells ℕ) s) k)
 
-  on-load : (o : Operands) → Agreed e t load i s u o o
+  pub on-load : (o : Operands) → Agreed e t load i s u o o
   unfolding readSink taintsAfter operate
   on-load o =
       record {
@@ -308,7 +308,7 @@ module _ (e : Environment) (t : Taints (cells ℕ)) (i : Instruction) {s u : Sta
             passed λ k. register-written n (next-pc n i) (o .dst) r));
       }
 
-  on-store : (o : Operands) → Agreed e t store i s u o o
+  pub on-store : (o : Operands) → Agreed e t store i s u o o
   unfolding readSink taintsAfter operate
   on-store o =
       record {
@@ -322,7 +322,7 @@ module _ (e : Environment) (t : Taints (cells ℕ)) (i : Instruction) {s u : Sta
             λ c d r. passed λ k. cells-written n (next-pc n i) r));
       }
 
-  on-tape-load : (o : Operands) → Agreed e t tapeLoad i s u o o
+  pub on-tape-load : (o : Operands) → Agreed e t tapeLoad i s u o o
   unfolding readSink taintsAfter operate
   on-tape-load o =
       record {
@@ -348,7 +348,7 @@ module _ (e : Environment) (t : Taints (cells ℕ)) (i : Instruction) {s u : Sta
           (n .tape)
           (many-stored (n .cells) (o .dst) (vs (s .tape)))
 
-  on-tape-store : (o : Operands) → Agreed e t tapeStore i s u o o
+  pub on-tape-store : (o : Operands) → Agreed e t tapeStore i s u o o
   unfolding readSink taintsAfter operate
   on-tape-store o =
       record {
@@ -363,7 +363,7 @@ module _ (e : Environment) (t : Taints (cells ℕ)) (i : Instruction) {s u : Sta
             tape-written n i (let d = n .tape in cc) (cc) (cc) refl (overlay-longer (s .output ++ vs) (s .written));
       }
 
-  on-contract-call : (o : Operands) → Agreed e t contractCall i s u o o
+  pub on-contract-call : (o : Operands) → Agreed e t contractCall i s u o o
   unfolding readSink taintsAfter operate
   on-contract-call o =
       record {
@@ -376,10 +376,10 @@ module _ (e : Environment) (t : Taints (cells ℕ)) (i : Instruction) {s u : Sta
             tape-written n i (let d = n .tape in cc) refl (n .written) (cc) (omega arith);
       }
 
-  on-end : (o : Operands) → Agreed e t end i s u o o
+  pub on-end : (o : Operands) → Agreed e t end i s u o o
   unfolding readSink taintsAfter operate
   on-end o = record { sinks = refl; taints = refl; next = passed λ k. tape-written n i (n .tape) (n .output) (n .written) refl (n .within) }
 
-  on-uncovered : (o : Operands) → Agreed e t uncovered i s u o o
+  pub on-uncovered : (o : Operands) → Agreed e t uncovered i s u o o
   unfolding readSink taintsAfter operate
   on-uncovered o = record { sinks = refl; taints = refl; next = refused }

@@ -5,9 +5,9 @@ use mathlib.Core.Bool.{Bool, true, false}
 use lib.Dec.{ltb}
 use Rattle.rules.specs.declared.Refusal.{Refusal}
 use Rattle.rules.specs.Numbers.{clockEnd}
-use Rattle.rules.specs.Results.{Result, refuse, pass, require, bind, Guarded, refuses, sink, passes, after, guard}
+use Rattle.rules.specs.Results.{Result, refuse, pass, require, bind, Guarded, after, guard}
 use Rattle.rules.specs.Step.{Finish, goesOn, ends, calls, delegates, Ran, onClock, onFinish}
-use Rattle.rules.specs.Relations.{Both, refused, passed, BothGuarded, refused-alike, sink-alike, passed-alike, BothRan}
+use Rattle.rules.specs.Relations.{Both, refused, passed, BothGuarded, refused-alike, sink-alike, BothRan}
 
 -- Results
 
@@ -29,6 +29,16 @@ unfolding bind
 both-bind f g refused h = refused
 both-bind f g (passed {a} {b} x) h = h a b x
 
+-- after equal results the rest has one value to go on with
+pub both-bind-equal : {A C D : Type 0} {S : C → D → Type 0} {r q : Result A} (f : A → Result C) (g : A → Result D)
+    → r ≡ q → ((a : A) → Both S (f a) (g a)) → Both S (bind r f) (bind q g)
+unfolding bind
+both-bind-equal {S = S} {r = r} f g e h = subst (λ q. Both S (bind r f) (bind q g)) e (go r)
+  where
+    go : (r : Result _) → Both S (bind r f) (bind r g)
+    go (refuse x) = refused
+    go (pass a) = h a
+
 -- one test, equal on both sides, before related results
 pub both-require : {A B : Type 0} {R : A → B → Type 0} {b c : Bool} (f : Refusal) {r : Result A} {q : Result B} → b ≡ c → Both R r q
     → Both R (require b f r) (require c f q)
@@ -46,6 +56,15 @@ pub both-after : {A B C D : Type 0} {R : A → B → Type 0} {S : C → D → Ty
 unfolding after
 both-after f g refused h = refused-alike
 both-after f g (passed {a} {b} x) h = h a b x
+
+pub both-after-equal : {A C D : Type 0} {S : C → D → Type 0} {r q : Result A} (f : A → Guarded C) (g : A → Guarded D)
+    → r ≡ q → ((a : A) → BothGuarded S (f a) (g a)) → BothGuarded S (after r f) (after q g)
+unfolding after
+both-after-equal {S = S} {r = r} f g e h = subst (λ q. BothGuarded S (after r f) (after q g)) e (go r)
+  where
+    go : (r : Result _) → BothGuarded S (after r f) (after r g)
+    go (refuse x) = refused-alike
+    go (pass a) = h a
 
 pub both-guard : {A B : Type 0} {R : A → B → Type 0} {b c : Bool} {r : Guarded A} {q : Guarded B} → b ≡ c → BothGuarded R r q
     → BothGuarded R (guard b r) (guard c q)

@@ -20,3 +20,6 @@ pub mod TaintRules
 pub mod SinkRules
 pub mod NonInterference
 pub mod Relations
+pub mod MapAgreement
+pub mod Rows
+pub mod Cases

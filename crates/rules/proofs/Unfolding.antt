@@ -1,0 +1,36 @@
+-- What a theorem about a call that is written out unfolds, under a few names: with them on its line the theorem is `refl`.
+use lib.Count.{onesIn, trailingZeros}
+use Rattle.rules.specs.Numbers.{p, stackEnd, heapEnd, smallEnd, wordEnd, clockEnd, frameLimit, textLimit, cellLimit, valueLimit}
+use Rattle.rules.specs.Results.{require, bind, after, guard}
+use Rattle.rules.specs.Hexadecimal.{digitOf, digitsOf, wordOf, lowDigits, digitCount, shortestHex}
+use Rattle.rules.specs.Frames.{opcodes, selectorFits, registerOf, firstWordFits, operandOf, instructionOf, frameOf, exactFrameOf, framesAfter, reportedFrame, countFits, loadFrames, loadWords}
+use Rattle.rules.specs.Text.{linesAfter, joinedWords, frameOfLine, loadText, budgetOf, loadJob, loadBudgetText}
+use Rattle.rules.specs.Opcodes.{classOf}
+use Rattle.rules.specs.Operands.{binaryLength, instructionAt, fetch, wantsOf, valueOf, operand, operands}
+use Rattle.rules.specs.Step.{readMany, readSpan, storeMany, operate, step, run}
+use Rattle.rules.specs.Taint.{sinksOf, operandSink, spanTaint, readSink, cleanMany, taintsAfter, taintedRest, taintedStep, taintedRun}
+use Rattle.rules.specs.Answers.{meaning, refusalMeaning}
+use Rattle.rules.specs.Entry.{all, plainEntry, taintedNumbersBelow, taintEntry, taintedEntry}
+use Rattle.rules.specs.Calls.{plainCall, taintedCall, plainWords, plainText, plainBudgetText, taintedWords, taintedText, taintedBudgetText}
+use Rattle.rules.specs.Solve.{solve, kilosteps, decimal, valueLines, carriedFields, printed, solveStart}
+use Rattle.rules.specs.Rows.{frame, bytes}
+
+unfoldable pub numbers : Unit {0}
+unfolding onesIn trailingZeros p stackEnd heapEnd smallEnd wordEnd clockEnd frameLimit textLimit cellLimit valueLimit
+numbers = tt
+
+unfoldable pub reading : Unit {0}
+unfolding digitOf digitsOf wordOf opcodes selectorFits registerOf firstWordFits operandOf instructionOf frameOf exactFrameOf framesAfter reportedFrame countFits loadFrames loadWords linesAfter joinedWords frameOfLine loadText budgetOf loadJob loadBudgetText frame bytes
+reading = tt
+
+unfoldable pub stepping : Unit {0}
+unfolding require bind after guard classOf binaryLength instructionAt fetch wantsOf valueOf operand operands readMany readSpan storeMany operate step run sinksOf operandSink spanTaint readSink cleanMany taintsAfter taintedRest taintedStep taintedRun
+stepping = tt
+
+unfoldable pub calling : Unit {0}
+unfolding numbers reading stepping meaning refusalMeaning all plainEntry taintedNumbersBelow taintEntry taintedEntry plainCall taintedCall plainWords plainText plainBudgetText taintedWords taintedText taintedBudgetText
+calling = tt
+
+unfoldable pub printing : Unit {0}
+unfolding calling lowDigits digitCount shortestHex kilosteps decimal valueLines carriedFields printed solveStart solve
+printing = tt
