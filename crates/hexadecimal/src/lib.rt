@@ -1,16 +1,19 @@
-// Words as text: the digits 0-9a-f.
+// Words as text, in the digits 0-9a-f: `digit` and `word` read, `put_shortest` and `put_16` write into a buffer that the caller lends.
+// All four are public and take any arguments; the other functions are private.
 use rules::HexWord;
 ghost use mathlib.Core.Path.{_≡_};
+ghost use Prim.Native.Nat.{_<_};
 ghost use lib.ListN.{take, drop};
-ghost use Rattle.rules.specs.Hexadecimal.{digitOf, wordOf};
+ghost use Rattle.rules.specs.Hexadecimal.{digitOf, wordOf, digitChar, lowDigits, digits16, digitCount, shortestHex};
+ghost use Rattle.hexadecimal.specs.Writing.{Writes};
 
 // The value of a digit.
 pub fn digit(c: u8) -> HexWord
     ensures { λ r. ⌜ r ≡ digitOf c ⌝ }
 {
     match c {
-        b'0'..=b'9' => HexWord::Word(c as u64 - 48),
-        b'a'..=b'f' => HexWord::Word(c as u64 - 87),
+        b'0'..=b'9' => HexWord::Word((c - b'0') as u64),
+        b'a'..=b'f' => HexWord::Word((c - b'a') as u64 + 10),
         _ => HexWord::NotHex,
     }
 }
@@ -19,10 +22,7 @@ pub fn digit(c: u8) -> HexWord
 pub fn word(s: &[u8], at: usize) -> HexWord
     ensures { λ r. ⌜ r ≡ wordOf (take 16 (drop at (now (s .entry)))) ⌝ }
 {
-    if s.len() < 16 {
-        return HexWord::NotHex;
-    }
-    if s.len() - 16 < at {
+    if s.len() < 16 || s.len() - 16 < at {
         return HexWord::NotHex;
     }
     let mut n: u64 = 0;
@@ -36,4 +36,66 @@ pub fn word(s: &[u8], at: usize) -> HexWord
         i += 1;
     }
     HexWord::Word(n)
+}
+
+// What writing into a buffer gives: the place after the last character, or no space, and then nothing is written.
+pub enum Put {
+    Next(usize),
+    NoSpace,
+}
+
+// Writes a word in shortest hexadecimal.
+pub fn put_shortest(buffer: &mut [u8], at: usize, v: u64) -> Put
+    ensures { λ r. ⌜ Writes (shortestHex v) (now (buffer .entry)) at r (now (buffer .exit)) ⌝ }
+{
+    put_digits(buffer, at, v, digit_count(v))
+}
+
+// Writes the sixteen digits of a word.
+pub fn put_16(buffer: &mut [u8], at: usize, v: u64) -> Put
+    ensures { λ r. ⌜ Writes (digits16 v) (now (buffer .entry)) at r (now (buffer .exit)) ⌝ }
+{
+    put_digits(buffer, at, v, 16)
+}
+
+// Writes a number's lowest n digits, the lowest first.
+fn put_digits(buffer: &mut [u8], at: usize, v: u64, n: usize) -> Put
+    ensures { λ r. ⌜ Writes (lowDigits n v) (now (buffer .entry)) at r (now (buffer .exit)) ⌝ }
+{
+    if buffer.len() < n || buffer.len() - n < at {
+        return Put::NoSpace;
+    }
+    let mut left = n;
+    let mut rest = v;
+    while 0 < left {
+        left -= 1;
+        buffer[at + left] = digit_char(rest % 16);
+        rest = rest / 16;
+    }
+    Put::Next(at + n)
+}
+
+// The character of a digit's value.
+fn digit_char(d: u64) -> u8
+    requires { ⌜ d < 16 ⌝ }
+    ensures { λ r. ⌜ r ≡ digitChar d ⌝ }
+{
+    if d < 10 {
+        b'0' + d as u8
+    } else {
+        b'a' + (d - 10) as u8
+    }
+}
+
+// How many digits a word needs.
+fn digit_count(v: u64) -> usize
+    ensures { λ r. ⌜ r ≡ digitCount 15 v ⌝ }
+{
+    let mut n = 1;
+    let mut rest = v;
+    while 16 <= rest {
+        rest = rest / 16;
+        n += 1;
+    }
+    n
 }

@@ -82,8 +82,16 @@ module _ {A : Type 0} where
   present-injective : (v w : A) → present v ≡ present w → v ≡ w
   present-injective v w e = cc
 
-  absent-present : (v : A) → absent ≡ present v → ⊥
+  pub absent-present : (v : A) → absent ≡ present v → ⊥
   absent-present v e = let z : _≡_ {A = ℕ} 0 1 = cc in omega arith
+
+  -- what lies behind the first cell does not have its address
+  pub other-address : (b : ℕ) (c : Cells A) (a : ℕ) (v : A) → RisingFrom (suc b) c → get c a ≡ present v → eqb b a ≡ false
+  other-address b c a v r e =
+      ne-eqb b a (λ q. let l : a < suc b = omega arith in absent-present v (sym (get-below (suc b) c a r l) ∙ e))
+
+  pub get-behind : (b : ℕ) (w : A) (c : Cells A) (a : ℕ) (v : A) → RisingFrom (suc b) c → get c a ≡ present v → get (cell b w c) a ≡ present v
+  get-behind b w c a v r e = rw (other-address b c a v r e) e
 
   -- two rising lists that hold the same at every address are one
   pub extensional : (n : ℕ) (c d : Cells A) → RisingFrom n c → RisingFrom n d → ((a : ℕ) → get c a ≡ get d a) → c ≡ d
@@ -138,6 +146,16 @@ module _ {A : Type 0} where
   length-contents none = refl
   length-contents (cell a v c) = ap suc (length-contents c)
 
+  -- whether a list rises is a matter of its addresses
+  pub rising-addresses : {B : Type 0} (n : ℕ) (c : Cells A) (d : Cells B) → addresses c ≡ addresses d → RisingFrom n d → RisingFrom n c
+  rising-addresses n none none e r = tt
+  rising-addresses n none (cell b w d) e r = tt
+  rising-addresses n (cell a v c) none e r = absurd (let z : _≡_ {A = ℕ} 0 1 = cc in omega arith)
+  rising-addresses n (cell a v c) (cell b w d) e r =
+      let x : b ≡ a = cc in
+      let y : addresses c ≡ addresses d = cc in
+      (subst (λ m. n ≤ m) x (r .0), rising-addresses (suc a) c d y (subst (λ m. RisingFrom (suc m) d) x (r .1)))
+
   pub zipped-again : (c : Cells A) → zipped (addresses c) (contents c) ≡ c
   zipped-again none = refl
   zipped-again (cell a v c) = ap (cell a v) (zipped-again c)
@@ -152,6 +170,11 @@ module _ {A : Type 0} where
   contents-zipped [] (v ∷ vs) h = absurd (omega arith)
   contents-zipped (a ∷ l) [] h = absurd (omega arith)
   contents-zipped (a ∷ l) (v ∷ vs) h = ap (_∷_ v) (contents-zipped l vs (omega arith))
+
+  pub count-zipped : (l : List ℕ) (vs : List A) → count (zipped l vs) ≤ length l
+  count-zipped [] vs = omega arith
+  count-zipped (a ∷ l) [] = omega arith
+  count-zipped (a ∷ l) (v ∷ vs) = let h : count (zipped l vs) ≤ length l = count-zipped l vs in omega arith
 
   pub zipped-risingFrom : (n : ℕ) (l : List ℕ) (vs : List A) → risingFrom n l ≡ true → RisingFrom n (zipped l vs)
   zipped-risingFrom n [] vs t = tt

@@ -34,9 +34,9 @@ below-p : (t : Bool) (n : ℕ) → (not t || ltb n p) ≡ true → t ≡ true �
 below-p true n h e = ltb-true n p h
 below-p false n h e = absurd (false-true e)
 
-below-p-test : (t : Bool) (n : ℕ) → (t ≡ true → n < p) → (not t || ltb n p) ≡ true
-below-p-test true n h = lt-ltb n p (h refl)
-below-p-test false n h = refl
+pub below-test : (t : Bool) (n : ℕ) → (t ≡ true → n < p) → (not t || ltb n p) ≡ true
+below-test true n h = lt-ltb n p (h refl)
+below-test false n h = refl
 
 zero-below : 0 < p
 unfolding p
@@ -51,7 +51,7 @@ taintedBelow-at (t ∷ ts) (n ∷ ns) h (suc i) e = taintedBelow-at ts ns (and-r
 pub taintedBelow-of : (ts : List Bool) (ns : List ℕ) → ((i : ℕ) → getD ts i false ≡ true → getD ns i 0 < p) → taintedBelow ts ns ≡ true
 taintedBelow-of [] ns h = refl
 taintedBelow-of (t ∷ ts) [] h = refl
-taintedBelow-of (t ∷ ts) (n ∷ ns) h = and-true (below-p-test t n (h 0)) (taintedBelow-of ts ns (λ i. h (suc i)))
+taintedBelow-of (t ∷ ts) (n ∷ ns) h = and-true (below-test t n (h 0)) (taintedBelow-of ts ns (λ i. h (suc i)))
 
 -- bits of a word
 

@@ -14,3 +14,11 @@ pub mod CasesHold
 pub mod DecodedRegisters
 pub mod OverlayLaws
 pub mod EntryLaws
+pub mod Passing
+pub mod PlainSoundness
+pub mod TaintedSoundness
+pub mod EntrySoundness
+pub mod Resuming
+pub mod ResultLaws
+pub mod WrittenPlaces
+pub mod TaintsFollow

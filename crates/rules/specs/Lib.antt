@@ -23,3 +23,5 @@ pub mod Relations
 pub mod MapAgreement
 pub mod Rows
 pub mod Cases
+pub mod Soundness
+pub mod Resumption

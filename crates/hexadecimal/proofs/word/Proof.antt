@@ -1,9 +1,11 @@
 -- `hexadecimal::word` meets its contract. The loop's invariant: i characters are read, n is the number of their digits, and what is left, read
 -- after n, gives what all sixteen give.
+use mathlib.Core.Logic.{⊎-elim}
 use mathlib.Core.Path.{_≡_, sym, _∙_}
 use Prim.Native.Nat.{ℕ, _+_, _-_, _^_, _<_, _≤_}
 use native.Mathlib.Omega.{arith}
 use borrow.Author.Needs.{needs}
+use borrow.Author.Tests.{ltb-true, ltb-false}
 use lib.ListN.{length, getD, take, drop}
 use denote.Ref.{now}
 use Rattle.rules.specs.declared.HexWord.the-variants.{Word}
@@ -20,19 +22,19 @@ Inv-loop s at n₀ i₀ n i =
 abbrev μ-loop : tie.MeasureT-loop
 μ-loop s at n₀ i₀ n i = 16 - i
 
-returns : tie.Need-returns Inv-loop μ-loop
-returns c = let a = c .before .before .args in sym (too-short (now (a .s)) (a .at) (omega arith))
-
 sub-if2 : tie.Need-sub-if2 Inv-loop μ-loop
 sub-if2 c = search needs
 
-returns-2 : tie.Need-returns-2 Inv-loop μ-loop
-returns-2 c = let a = c .before .before .before .args in sym (too-short (now (a .s)) (a .at) (omega arith))
+returns : tie.Need-returns Inv-loop μ-loop
+returns c =
+    let a = c .before .before .args in
+    let h : length (now (a .s)) < a .at + 16 = ⊎-elim (λ w. omega arith) (λ w. omega (arith, ltb-true)) (c .if1 .came) in
+    sym (too-short (now (a .s)) (a .at) h)
 
 loop-holds : tie.Need-loop-holds Inv-loop μ-loop
 loop-holds c =
     let a = c .before .before .before .args in
-    let fits : a .at + 16 ≤ length (now (a .s)) = omega arith in
+    let fits : a .at + 16 ≤ length (now (a .s)) = omega (arith, ltb-false) in
     (omega arith, omega arith, fits, none-read (now (a .s)) (a .at) fits)
 
 add-digit : tie.Need-add-digit Inv-loop μ-loop
@@ -50,8 +52,8 @@ enum-known-d c = search needs
 enum-told : tie.Need-enum-told Inv-loop μ-loop
 enum-told c = search needs
 
-returns-3 : tie.Need-returns-3 Inv-loop μ-loop
-returns-3 c =
+returns-2 : tie.Need-returns-2 Inv-loop μ-loop
+returns-2 c =
     let d = c .before .before in
     let l = d .before .before .before .loop in
     let a = d .before .before .before .before .before .before .before .args in
@@ -76,10 +78,14 @@ module _ (c : tie.After-d Inv-loop μ-loop) where
   small = digit-lt char value digit-is
 
 mul-n : tie.Need-mul-n Inv-loop μ-loop
-mul-n c = let l = c .before .before .before .before .before .before .loop in omega (arith, room (l .n) (l .i) (l .inv .1) (omega arith))
+mul-n c =
+    let l = c .before .before .before .before .before .before .loop in
+    omega (arith, small (c .before), room (l .n) (l .i) (l .inv .1) (omega arith))
 
 add-n : tie.Need-add-n Inv-loop μ-loop
-add-n c = let l = c .before .before .before .before .before .before .loop in omega (arith, small (c .before), room (l .n) (l .i) (l .inv .1) (omega arith))
+add-n c =
+    let l = c .before .before .before .before .before .before .loop in
+    omega (arith, small (c .before), room (l .n) (l .i) (l .inv .1) (omega arith))
 
 add-i : tie.Need-add-i Inv-loop μ-loop
 add-i c = search needs
@@ -98,8 +104,8 @@ loop-again c =
       l .inv .3 ∙ digit-read (now (a .s)) (a .at) (l .i) (l .n) (l .inv .2) (omega arith) (value d) (digit-is d),
     )
 
-returns-4 : tie.Need-returns-4 Inv-loop μ-loop
-returns-4 c =
+returns-3 : tie.Need-returns-3 Inv-loop μ-loop
+returns-3 c =
     let l = c .before .loop in
     let a = c .before .before .before .before .before .args in
     sym (l .inv .3 ∙ all-read (now (a .s)) (a .at) (l .i) (l .n) (omega arith))
@@ -110,19 +116,18 @@ word-spec =
     (tie.spec
     Inv-loop
     μ-loop
-    returns
     sub-if2
-    returns-2
+    returns
     loop-holds
     add-digit
     shared-slice-read-digit
     digit-requires
     enum-known-d
     enum-told
-    returns-3
+    returns-2
     mul-n
     add-n
     add-i
     loop-less
     loop-again
-    returns-4)
+    returns-3)

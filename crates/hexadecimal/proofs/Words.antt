@@ -1,0 +1,104 @@
+-- What reading gives: a word is below 2^64, and the digits that are written of a word read back as that word.
+use mathlib.Core.Path.{_≡_, refl, ap, _∙_}
+use mathlib.Core.Bool.{Bool, true, false}
+use mathlib.Core.List.{List, [], _∷_, _++_}
+use Prim.Native.Nat.{ℕ, zero, suc, _+_, _*_, _/_, _%_, _^_, _<_, _≤_}
+use native.Mathlib.Nat.{pow-suc, mod-one, mod-lt, mod-eq-of-lt, mul-le-mul-right, one-le-pow}
+use native.Mathlib.Omega.{arith}
+use lib.Arith.{mod-mul}
+use lib.Dec.{ltb, eqb}
+use lib.ListN.{length, length-append}
+use borrow.Author.Tests.{eq-eqb, eqb-true, ltb-true, ltb-false}
+use Rattle.rules.specs.declared.HexWord.{HexWord}
+use Rattle.rules.specs.declared.HexWord.the-variants.{Word, NotHex}
+use Rattle.rules.specs.Numbers.{choose}
+use Rattle.rules.specs.Hexadecimal.{digitOf, onDigit, digitsOf, wordOf, digitChar, lowDigits, digits16, digitCount, shortestHex}
+use Rattle.hexadecimal.proofs.Digits.{decimal, letter, digit-lt}
+
+-- the number of digits that stand after n
+pub digits-bound : (cs : List ℕ) (n w : ℕ) → digitsOf n cs ≡ Word w → w < suc n * 16 ^ length cs
+unfolding digitsOf
+digits-bound [] n w e = let k : n ≡ w = cc in omega arith
+digits-bound (c ∷ cs) n w e = go (digits-bound cs) (digitOf c) refl e
+  where
+    go : ((m u : ℕ) → digitsOf m cs ≡ Word u → u < suc m * 16 ^ length cs)
+        → (d : HexWord) → digitOf c ≡ d → onDigit d (λ v. digitsOf (n * 16 + v) cs) ≡ Word w → w < suc n * 16 ^ suc (length cs)
+    go ih NotHex h e = let z : _≡_ {A = ℕ} 0 1 = cc in omega arith
+    go ih (Word v) h e =
+        let l : suc (n * 16 + v) ≤ suc n * 16 = omega (arith, digit-lt c v h) in
+        rw (pow-suc 16 (length cs)) (omega (arith, ih (n * 16 + v) w e, mul-le-mul-right (16 ^ length cs) l))
+
+pub word-lt : (cs : List ℕ) (w : ℕ) → wordOf cs ≡ Word w → w < 2 ^ 64
+unfolding wordOf
+word-lt cs w = go (eqb (length cs) 16) refl
+  where
+    go : (b : Bool) → eqb (length cs) 16 ≡ b → choose b (digitsOf 0 cs) NotHex ≡ Word w → w < 2 ^ 64
+    go false h e = let z : _≡_ {A = ℕ} 0 1 = cc in omega arith
+    go true h e =
+        let n : length cs ≡ 16 = eqb-true (length cs) 16 h in
+        rw n at (digits-bound cs 0 w e)
+
+-- one more digit at the end
+digits-snoc : (cs : List ℕ) (n c : ℕ) → digitsOf n (cs ++ (c ∷ [])) ≡ onDigit (digitsOf n cs) (λ m. onDigit (digitOf c) (λ d. Word (m * 16 + d)))
+unfolding digitsOf
+digits-snoc [] n c = refl
+digits-snoc (b ∷ cs) n c = go (λ m. digits-snoc cs m c) (digitOf b)
+  where
+    go : ((m : ℕ) → digitsOf m (cs ++ (c ∷ [])) ≡ onDigit (digitsOf m cs) (λ k. onDigit (digitOf c) (λ d. Word (k * 16 + d))))
+        → (b : HexWord)
+        → onDigit b (λ v. digitsOf (n * 16 + v) (cs ++ (c ∷ []))) ≡ onDigit (onDigit b (λ v. digitsOf (n * 16 + v) cs)) (λ m. onDigit (digitOf c) (λ d. Word (m * 16 + d)))
+    go ih NotHex = refl
+    go ih (Word v) = ih (n * 16 + v)
+
+pub char-digit : (d : ℕ) → d < 16 → digitOf (digitChar d) ≡ Word d
+char-digit d h = go (ltb d 10) refl
+  where
+    go : (b : Bool) → ltb d 10 ≡ b → digitOf (choose b (d + 48) (d + 87)) ≡ Word d
+    go true l = decimal (d + 48) (omega arith) (omega (arith, ltb-true)) ∙ ap Word (omega arith)
+    go false l = letter (d + 87) (omega (arith, ltb-false)) (omega arith) ∙ ap Word (omega arith)
+
+pub low-length : (n v : ℕ) → length (lowDigits n v) ≡ n
+unfolding lowDigits
+low-length zero v = refl
+low-length (suc n) v = length-append (lowDigits n (v / 16)) _ ∙ omega (arith, low-length n (v / 16))
+
+pub low-read : (n m v : ℕ) → digitsOf m (lowDigits n v) ≡ Word (m * 16 ^ n + v % 16 ^ n)
+unfolding lowDigits digitsOf
+low-read zero m v = ap Word (omega (arith, mod-one v))
+low-read (suc n) m v =
+    digits-snoc (lowDigits n (v / 16)) m (digitChar (v % 16))
+    ∙ rw (low-read n m (v / 16), char-digit (v % 16) (mod-lt v (omega arith)), pow-suc 16 n, mod-mul v {m = 16 ^ n} {c = 16} (one-le-pow n 16 (omega arith)) (omega arith))
+    (ap Word (omega arith))
+
+pub word-read : (v : ℕ) → v < 2 ^ 64 → wordOf (digits16 v) ≡ Word v
+unfolding wordOf
+word-read v h =
+    simp (eq-eqb (length (digits16 v)) 16 (low-length 16 v)) (low-read 16 0 v ∙ ap Word (omega (arith, mod-eq-of-lt {n = v} {m = 16 ^ 16} h)))
+
+-- a number is written with as many digits as it needs
+pub count-enough : (n v : ℕ) → v < 16 ^ suc n → v < 16 ^ digitCount n v
+unfolding digitCount
+count-enough zero v h = h
+count-enough (suc n) v h = go (count-enough n (v / 16)) (ltb v 16) refl
+  where
+    go : (v / 16 < 16 ^ suc n → v / 16 < 16 ^ digitCount n (v / 16)) → (b : Bool) → ltb v 16 ≡ b → v < 16 ^ choose b 1 (suc (digitCount n (v / 16)))
+    go ih true l = ltb-true v 16 l
+    go ih false l =
+        let k : v / 16 < 16 ^ suc n = omega (arith, pow-suc 16 (suc n)) in
+        rw (pow-suc 16 (digitCount n (v / 16))) (omega (arith, ih k))
+
+-- and with no more: the first digit of a number above 0 is not 0
+pub count-least : (n v : ℕ) → 0 < v → 16 ^ digitCount n v ≤ v * 16
+unfolding digitCount
+count-least zero v h = omega arith
+count-least (suc n) v h = go (count-least n (v / 16)) (ltb v 16) refl
+  where
+    go : (0 < v / 16 → 16 ^ digitCount n (v / 16) ≤ v / 16 * 16) → (b : Bool) → ltb v 16 ≡ b → 16 ^ choose b 1 (suc (digitCount n (v / 16))) ≤ v * 16
+    go ih true l = omega arith
+    go ih false l =
+        let k : 0 < v / 16 = omega (arith, ltb-false) in
+        rw (pow-suc 16 (digitCount n (v / 16))) (omega (arith, ih k))
+
+pub shortest-read : (v : ℕ) → v < 2 ^ 64 → digitsOf 0 (shortestHex v) ≡ Word v
+unfolding shortestHex
+shortest-read v h = low-read (digitCount 15 v) 0 v ∙ ap Word (omega (arith, mod-eq-of-lt (count-enough 15 v h)))

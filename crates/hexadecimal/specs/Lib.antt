@@ -1,0 +1,2 @@
+-- What the contracts of the functions that write cite.
+pub mod Writing

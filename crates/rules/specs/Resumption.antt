@@ -1,0 +1,53 @@
+-- What a call leaves can be handed in again: the buffers keep their lengths, and the snapshot stands for the state that the run left.
+use Prim.Native.Nat.{ℕ, _<_}
+use mathlib.Core.Path.{_≡_}
+use mathlib.Core.Bool.{true}
+use mathlib.Core.List.{List}
+use lib.ListN.{length}
+use Rattle.rules.specs.declared.Instruction.{Instruction}
+use Rattle.rules.specs.Numbers.{clockEnd}
+use Rattle.rules.specs.Cells.{cells}
+use Rattle.rules.specs.Step.{State}
+use Rattle.rules.specs.Taint.{TaintedState}
+use Rattle.rules.specs.Entry as Entry
+use Rattle.rules.specs.Entry.{Snapshot, TaintedSnapshot, plainEntry, taintedEntry, stateOf, taintedStateOf, snapshotAfter, taintedSnapshotAfter}
+use Rattle.rules.specs.Soundness.{Sound, TaintedSound}
+
+-- a state as the next call sees it: what the run wrote behind the output no longer counts as written
+abbrev pub resumed : State (cells ℕ) → State (cells ℕ)
+resumed t =
+    record {
+      registers = t .registers;
+      pc = t .pc;
+      clk = t .clk;
+      cells = t .cells;
+      tape = t .tape;
+      output = t .output;
+      written = t .output;
+    }
+
+abbrev pub taintedResumed : TaintedState (cells ℕ) → TaintedState (cells ℕ)
+taintedResumed q = record { plain = resumed (q .plain); taints = q .taints }
+
+pub record Resumable (program : List Instruction) (s : Snapshot) (t : State (cells ℕ)) : Type 0 where
+  pub addresses : length (snapshotAfter s t .addresses) ≡ length (s .addresses)
+  pub numbers : length (snapshotAfter s t .numbers) ≡ length (s .numbers)
+  pub tape : length (snapshotAfter s t .tape) ≡ length (s .tape)
+  pub output : length (snapshotAfter s t .output) ≡ length (s .output)
+  pub environment : Entry.environment program (snapshotAfter s t) ≡ Entry.environment program s
+  pub state : stateOf (snapshotAfter s t) ≡ resumed t
+  -- it is refused 3 only for its clock
+  pub entry : t .clk < clockEnd → plainEntry (snapshotAfter s t) ≡ true
+
+pub record TaintedResumable (program : List Instruction) (g : TaintedSnapshot) (q : TaintedState (cells ℕ)) : Type 0 where
+  pub plain : Resumable program (g .plain) (q .plain)
+  pub taints : length (taintedSnapshotAfter g q .taints) ≡ length (g .taints)
+  pub state : taintedStateOf (taintedSnapshotAfter g q) ≡ taintedResumed q
+  pub entry : q .plain .clk < clockEnd → taintedEntry (taintedSnapshotAfter g q) ≡ true
+
+-- The theorem: it holds of every sound state over the buffers of a snapshot that passed entry, so of every end of a run from there
+
+pub record Resumption (program : List Instruction) : Type 0 where
+  pub plain : (s : Snapshot) (t : State (cells ℕ)) → plainEntry s ≡ true → Sound (Entry.environment program s) t → Resumable program s t
+  pub tainted : (g : TaintedSnapshot) (q : TaintedState (cells ℕ)) → taintedEntry g ≡ true
+      → TaintedSound (Entry.environment program (g .plain)) q → TaintedResumable program g q
