@@ -22,3 +22,4 @@ pub mod Resuming
 pub mod ResultLaws
 pub mod WrittenPlaces
 pub mod TaintsFollow
+pub mod SinksExact
