@@ -23,3 +23,4 @@ pub mod ResultLaws
 pub mod WrittenPlaces
 pub mod TaintsFollow
 pub mod SinksExact
+pub mod SinkRuns

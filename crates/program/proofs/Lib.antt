@@ -1,0 +1,12 @@
+-- What the functions' proofs have in common, and for the crates above what follows from a fetch and which registers are named.
+pub mod Cases
+pub mod Selectors
+pub mod OperandKinds
+pub mod Frames
+pub mod Decoding
+pub mod Packing
+pub mod Starts
+pub mod Loading
+pub mod Laying
+pub mod Fetching
+pub mod Registers
