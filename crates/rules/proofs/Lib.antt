@@ -24,3 +24,4 @@ pub mod WrittenPlaces
 pub mod TaintsFollow
 pub mod SinksExact
 pub mod SinkRuns
+pub mod LowSnapshots
