@@ -25,3 +25,10 @@ pub mod TaintsFollow
 pub mod SinksExact
 pub mod SinkRuns
 pub mod LowSnapshots
+pub mod AnswerLaws
+pub mod CleanRuns
+pub mod NonInterferenceHolds
+pub mod Growth
+pub mod RunSplits
+pub mod WrittenBehind
+pub mod CallSplits

@@ -50,3 +50,7 @@ module _ {A : Type 0} where
           in
           let m : overlay a b ≡ a = ap (λ l. a ++ l) (drop-of-length-le b {i = length a} (omega arith)) ∙ append-nil a in
           ap (λ l. a ++ l) l ∙ sym (ap (λ l. l ++ drop (length l) c) m)
+
+  -- one that is at least as long covers what was laid there before
+  pub overlay-covers : (a b c : List A) → length b ≤ length a → overlay a (overlay b c) ≡ overlay a c
+  overlay-covers a b c h = overlay-overlay a b c ∙ ap (λ l. overlay l c) (ap (λ l. a ++ l) (drop-of-length-le b {i = length a} h) ∙ append-nil a)

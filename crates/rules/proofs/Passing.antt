@@ -35,6 +35,10 @@ passing-any {P = P} r k h = go r
     go (refuse f) = refused
     go (pass a) = h a
 
+pub passing-both : {A : Type 0} {P Q : A → Type 0} {r : Result A} → Passing P r → Passing Q r → Passing (λ a. P a × Q a) r
+passing-both refused k = refused
+passing-both (passed h) (passed k) = passed (h, k)
+
 pub passing-at : {A : Type 0} {P : A → Type 0} {r : Result A} {a : A} → Passing P r → r ≡ pass a → P a
 passing-at {P = P} {r} {a} h e = go (subst (Passing P) e h)
   where
@@ -64,13 +68,7 @@ unfolding guard
 passing-guard true h = sink-guarded
 passing-guard false h = h
 
-pub passing-guarded-at : {A : Type 0} {P : A → Type 0} {r : Guarded A} {a : A} → PassingGuarded P r → r ≡ passes a → P a
-passing-guarded-at {P = P} {r} {a} h e = go (subst (PassingGuarded P) e h)
-  where
-    go : {a : _} → PassingGuarded P (passes a) → P a
-    go (passed-guarded q) = q
-
--- a property that a step keeps is kept by what follows an accepted step
+-- a property of the state that an accepted step leaves, and of what the rest of the run leaves, holds of the whole run's end
 module _ {S : Type 0} (P : S → Type 0) where
   clock-keeps : (b : Bool) (s : S) (r : Ran S) → P s → P (r .state) → P (onClock b s r .state)
   clock-keeps true s r h k = k

@@ -81,7 +81,7 @@ same-fetched {e} {s} {i} {j} {o} {u} f g =
     let a : i ≡ j = pass-injective (sym (f .fetched) ∙ g .fetched) in
     (a, pass-injective (sym (f .read) ∙ rw (← a) at (g .read)))
 
-pointwise : {f g : Tainting} → ((x : Place) → f x ≡ g x) → f ≡ g
+pub pointwise : {f g : Tainting} → ((x : Place) → f x ≡ g x) → f ≡ g
 pointwise h = λ j x. h x j
 
 module _ (e : Environment) (inRange : AllInRange (e .program)) where

@@ -25,3 +25,4 @@ pub mod Rows
 pub mod Cases
 pub mod Soundness
 pub mod Resumption
+pub mod SplitCalls

@@ -1,0 +1,135 @@
+-- Cells and tape only grow: no step removes a cell or a value of the tape.
+use Prim.Native.Nat.{ℕ, zero, suc, _≤_}
+use mathlib.Core.Path.{sym, subst}
+use mathlib.Core.Bool.{Bool, true, false}
+use mathlib.Core.List.{List, [], _∷_, _++_}
+use native.Mathlib.Omega.{arith}
+use lib.ListN.{length, length-append}
+use Rattle.rules.specs.declared.Instruction.{Instruction}
+use Rattle.rules.specs.Numbers.{choose}
+use Rattle.rules.specs.Results.{Result, Guarded}
+use Rattle.rules.specs.Cells.{Cells, get, put, count, Rising, cells}
+use Rattle.rules.specs.PlainMap.{isPresent}
+use Rattle.rules.specs.Opcodes.{Class, field, equality, small, complement, move, assert, rangeCheck, jump, conditionalJump, call, return, load, store, tapeLoad, tapeStore, contractCall, end, uncovered, classOf}
+use Rattle.rules.specs.Operands.{Operands}
+use Rattle.rules.specs.Step.{Environment, State, Next, storeMany, operate, capacity, step, Ran, onStep, run}
+use Rattle.rules.specs.Taint.{TaintedState, TaintedNext, taintedRest, taintedStep, onTaintedStep, taintedRun}
+use Rattle.rules.specs.Soundness.{Sound}
+use Rattle.rules.proofs.CellLaws.{rising-put, count-put}
+use Rattle.rules.proofs.Passing.{Passing, refused, passed, passing-require, passing-bind, passing-any, passing-both, PassingGuarded, refused-guarded, sink-guarded, passed-guarded, passing-after, passing-after-any, passing-guard, finish-keeps}
+use Rattle.rules.proofs.PlainSoundness.{operate-keeps, capacity-sound}
+
+pub record Grown (s t : State (cells ℕ)) : Type 0 where
+  pub cells : count (s .cells) ≤ count (t .cells)
+  pub tape : length (s .tape) ≤ length (t .tape)
+
+grown-same : (s : State (cells ℕ)) → Grown s s
+grown-same s = record { cells = omega arith; tape = omega arith }
+
+grown-twice : {s t u : State (cells ℕ)} → Grown s t → Grown t u → Grown s u
+grown-twice h k = let a = h .cells in let b = k .cells in let c = h .tape in let d = k .tape in record { cells = omega arith; tape = omega arith }
+
+put-grows : (c : Cells ℕ) (a v : ℕ) → Rising c → count c ≤ count (put c a v)
+put-grows c a v r = subst (λ n. count c ≤ n) (sym (count-put 0 c a v r)) (go (isPresent (get c a)))
+  where
+    go : (b : Bool) → count c ≤ choose b (count c) (suc (count c))
+    go true = omega arith
+    go false = omega arith
+
+store-grows : (n : ℕ) (c : Cells ℕ) (a : ℕ) (vs : List ℕ) → Rising c → n ≤ count c → Passing (λ d. n ≤ count d) (storeMany (cells ℕ) c a vs)
+unfolding storeMany
+store-grows n c a [] r h = passed h
+store-grows n c a (v ∷ vs) r h =
+    passing-require _ λ x.
+    passing-require _ λ y.
+    passing-require _ λ z.
+    store-grows n (put c a v) (suc a) vs (rising-put c a v r) (omega (arith, put-grows c a v r))
+
+module _ (e : Environment) (i : Instruction) (s : State (cells ℕ)) (o : Operands) (r : Rising (s .cells)) where
+  stored : (a : ℕ) (vs : List ℕ) → Passing (λ d. count (s .cells) ≤ count d) (storeMany (cells ℕ) (s .cells) a vs)
+  stored a vs = store-grows (count (s .cells)) (s .cells) a vs r (omega arith)
+
+  le : (n : ℕ) → n ≤ n
+  le n = omega arith
+
+  longer : (vs : List ℕ) → length (s .tape) ≤ length (s .tape ++ vs)
+  longer vs = rw length-append (omega arith)
+
+  operate-grows : (c : Class) → Passing (λ n. Grown s (n .state)) (operate (cells ℕ) e c i s o)
+  unfolding operate
+  operate-grows (field f) = passing-require _ λ a. passing-require _ λ b. passed (record { cells = le _; tape = le _ })
+  operate-grows (equality f) = passed (record { cells = le _; tape = le _ })
+  operate-grows (small f) = passing-require _ λ a. passing-require _ λ b. passed (record { cells = le _; tape = le _ })
+  operate-grows complement = passing-require _ λ a. passed (record { cells = le _; tape = le _ })
+  operate-grows move = passed (record { cells = le _; tape = le _ })
+  operate-grows assert = passing-require _ λ a. passed (record { cells = le _; tape = le _ })
+  operate-grows rangeCheck = passing-require _ λ a. passed (record { cells = le _; tape = le _ })
+  operate-grows jump = passed (record { cells = le _; tape = le _ })
+  operate-grows conditionalJump = passing-require _ λ a. passing-any _ _ λ b. passed (record { cells = le _; tape = le _ })
+  operate-grows call = passing-require _ λ a. passing-bind _ (stored _ _) λ c k. passed (record { cells = k; tape = le _ })
+  operate-grows return = passing-any _ _ λ pc. passing-any _ _ λ r. passed (record { cells = le _; tape = le _ })
+  operate-grows load = passing-require _ λ a. passing-require _ λ b. passing-any _ _ λ v. passed (record { cells = le _; tape = le _ })
+  operate-grows store = passing-require _ λ a. passing-require _ λ b. passing-bind _ (stored _ _) λ c k. passed (record { cells = k; tape = le _ })
+  operate-grows tapeLoad = passing-require _ λ a. passing-require _ λ b. passing-bind _ (stored _ _) λ c k. passed (record { cells = k; tape = le _ })
+  operate-grows tapeStore = passing-any _ _ λ vs. passed (record { cells = le _; tape = longer vs })
+  operate-grows contractCall = passing-any _ _ λ vs. passed (record { cells = le _; tape = longer _ })
+  operate-grows end = passed (record { cells = le _; tape = le _ })
+  operate-grows uncovered = refused
+
+-- Step and run, from sound states
+
+capacity-grows : (e : Environment) (s : State (cells ℕ)) (n : Next (cells ℕ)) → Grown s (n .state)
+    → Passing (λ n. Grown s (n .state)) (capacity (cells ℕ) e n)
+capacity-grows e s n h = passing-require _ λ a. passed h
+
+-- sound, and grown from where it came
+abbrev SoundGrown : Environment → State (cells ℕ) → State (cells ℕ) → Type 0
+SoundGrown e s t = Sound e t × Grown s t
+
+step-grows : (e : Environment) (s : State (cells ℕ)) → Sound e s → Passing (λ n. SoundGrown e s (n .state)) (step (cells ℕ) e s)
+unfolding step
+step-grows e s h =
+    passing-any _ _ λ i.
+    passing-any _ _ λ o.
+    passing-bind _ (passing-both (operate-keeps e i s o h (classOf (i .opcode))) (operate-grows e i s o (h .cells .rising) (classOf (i .opcode)))) λ n k.
+    passing-both (capacity-sound e n (k .0)) (capacity-grows e s n (k .1))
+
+on-step-grows : (e : Environment) (s : State (cells ℕ)) {x : Result (Next (cells ℕ))} (k : State (cells ℕ) → Ran (State (cells ℕ)))
+    → Passing (λ n. SoundGrown e s (n .state)) x → ((t : State (cells ℕ)) → Sound e t → Grown t (k t .state)) → Grown s (onStep (cells ℕ) s x k .state)
+on-step-grows e s k refused g = grown-same s
+on-step-grows e s k (passed {a = n} h) g =
+    finish-keeps (Grown s) (n .finish) (n .state .clk) (n .state) k (h .1) (grown-twice (h .1) (g (n .state) (h .0)))
+
+pub run-grows : (e : Environment) (budget : ℕ) (s : State (cells ℕ)) → Sound e s → Grown s (run (cells ℕ) e budget s .state)
+unfolding run
+run-grows e zero s h = grown-same s
+run-grows e (suc budget) s h = on-step-grows e s (run (cells ℕ) e budget) (step-grows e s h) (run-grows e budget)
+
+tainted-step-grows : (e : Environment) (q : TaintedState (cells ℕ)) → Sound e (q .plain)
+    → PassingGuarded (λ n. SoundGrown e (q .plain) (n .next .state)) (taintedStep (cells ℕ) e q)
+unfolding taintedStep taintedRest
+tainted-step-grows e q h =
+    let s = q .plain in
+    passing-after-any _ _ λ i.
+    passing-after-any _ _ λ o.
+    passing-guard _
+    (passing-after _ (passing-both (operate-keeps e i s o h (classOf (i .opcode))) (operate-grows e i s o (h .cells .rising) (classOf (i .opcode)))) λ n k.
+    passing-guard _
+    (passing-after _ (passing-both (capacity-sound e n (k .0)) (capacity-grows e s n (k .1))) λ n l. passed-guarded l))
+
+on-tainted-step-grows : (e : Environment) (q : TaintedState (cells ℕ)) {x : Guarded (TaintedNext (cells ℕ))}
+    (k : TaintedState (cells ℕ) → Ran (TaintedState (cells ℕ))) → PassingGuarded (λ n. SoundGrown e (q .plain) (n .next .state)) x
+    → ((r : TaintedState (cells ℕ)) → Sound e (r .plain) → Grown (r .plain) (k r .state .plain))
+    → Grown (q .plain) (onTaintedStep (cells ℕ) q x k .state .plain)
+on-tainted-step-grows e q k refused-guarded g = grown-same (q .plain)
+on-tainted-step-grows e q k sink-guarded g = grown-same (q .plain)
+on-tainted-step-grows e q k (passed-guarded {a = n} h) g =
+    let left : TaintedState (cells ℕ) = record { plain = n .next .state; taints = n .taints } in
+    finish-keeps (λ r. Grown (q .plain) (r .plain)) (n .next .finish) (n .next .state .clk) left k (h .1) (grown-twice (h .1) (g left (h .0)))
+
+pub tainted-run-grows : (e : Environment) (budget : ℕ) (q : TaintedState (cells ℕ)) → Sound e (q .plain)
+    → Grown (q .plain) (taintedRun (cells ℕ) e budget q .state .plain)
+unfolding taintedRun
+tainted-run-grows e zero q h = grown-same (q .plain)
+tainted-run-grows e (suc budget) q h =
+    on-tainted-step-grows e q (taintedRun (cells ℕ) e budget) (tainted-step-grows e q h) (tainted-run-grows e budget)

@@ -1,0 +1,133 @@
+-- A run that paused and the run that goes on from there are one run. A run that paused has a clock that goes on.
+use Prim.Native.Nat.{ℕ, zero, suc, _+_, _<_}
+use native.Mathlib.Nat.{zero-add, suc-add}
+use mathlib.Core.Path.{_≡_, refl, sym, ap, _∙_}
+use mathlib.Core.Bool.{Bool, true, false}
+use native.Mathlib.Omega.{arith}
+use lib.Dec.{ltb}
+use borrow.Author.Tests.{ltb-true}
+use Rattle.rules.specs.declared.Refusal.{Refusal}
+use Rattle.rules.specs.declared.Refusal.the-variants.{ClockEnd}
+use Rattle.rules.specs.declared.Answer.the-variants.{Ended, Calling, DelegateCalling, Paused, Refused, TaintedSink}
+use Rattle.rules.specs.Numbers.{clockEnd}
+use Rattle.rules.specs.Results.{Result, refuse, pass, Guarded, refuses, sink, passes}
+use Rattle.rules.specs.Memory.{Memory}
+use Rattle.rules.specs.Step.{Environment, State, Next, Finish, goesOn, ends, calls, delegates, Ran, afterStep, onClock, onFinish, step, onStep, run}
+use Rattle.rules.specs.Taint.{TaintedState, TaintedNext, taintedStep, onTaintedStep, taintedRun}
+
+-- two runs, the second from where the first ended
+abbrev pub joined : {S : Type 0} → Ran S → Ran S → Ran S
+joined r q = record { answer = q .answer; steps = r .steps + q .steps; state = q .state }
+
+-- Paused is no other answer
+ended : Ended ≡ Paused → ⊥
+ended e = let z : _≡_ {A = ℕ} 0 1 = cc in omega arith
+
+calling : (a b c d : ℕ) → Calling a b c d ≡ Paused → ⊥
+calling a b c d e = let z : _≡_ {A = ℕ} 0 1 = cc in omega arith
+
+delegating : (a b c d : ℕ) → DelegateCalling a b c d ≡ Paused → ⊥
+delegating a b c d e = let z : _≡_ {A = ℕ} 0 1 = cc in omega arith
+
+refused : (f : Refusal) → Refused f ≡ Paused → ⊥
+refused f e = let z : _≡_ {A = ℕ} 0 1 = cc in omega arith
+
+at-sink : TaintedSink ≡ Paused → ⊥
+at-sink e = let z : _≡_ {A = ℕ} 0 1 = cc in omega arith
+
+-- After an accepted step: what splits the rest of the run splits the whole, and what the rest leaves has a clock that goes on
+
+module _ {S : Type 0} where
+  clock-splits : (b : Bool) (s : S) (r whole : Ran S) (rest : S → Ran S) → (r .answer ≡ Paused → whole ≡ joined r (rest (r .state)))
+      → onClock b s r .answer ≡ Paused → onClock b s whole ≡ joined (onClock b s r) (rest (onClock b s r .state))
+  clock-splits true s r whole rest h e =
+      ap afterStep (h e)
+      ∙ (λ i. record { answer = rest (r .state) .answer; steps = sym (suc-add (r .steps) (rest (r .state) .steps)) i; state = rest (r .state) .state })
+  clock-splits false s r whole rest h e = absurd (refused ClockEnd e)
+
+  finish-splits : (f : Finish) (clk : ℕ) (s : S) (k whole rest : S → Ran S)
+      → ((s : S) → k s .answer ≡ Paused → whole s ≡ joined (k s) (rest (k s .state)))
+      → onFinish f clk s k .answer ≡ Paused
+      → onFinish f clk s whole ≡ joined (onFinish f clk s k) (rest (onFinish f clk s k .state))
+  finish-splits goesOn clk s k whole rest h e = clock-splits (ltb clk clockEnd) s (k s) (whole s) rest (h s) e
+  finish-splits ends clk s k whole rest h e = absurd (ended e)
+  finish-splits (calls vs) clk s k whole rest h e = absurd (calling _ _ _ _ e)
+  finish-splits (delegates vs) clk s k whole rest h e = absurd (delegating _ _ _ _ e)
+
+  clock-goes-on : (P : S → Type 0) (b : Bool) (s : S) (r : Ran S) → (b ≡ true → r .answer ≡ Paused → P (r .state))
+      → onClock b s r .answer ≡ Paused → P (onClock b s r .state)
+  clock-goes-on P true s r h e = h refl e
+  clock-goes-on P false s r h e = absurd (refused ClockEnd e)
+
+  finish-goes-on : (P : S → Type 0) (f : Finish) (clk : ℕ) (s : S) (k : S → Ran S) → (clk < clockEnd → k s .answer ≡ Paused → P (k s .state))
+      → onFinish f clk s k .answer ≡ Paused → P (onFinish f clk s k .state)
+  finish-goes-on P goesOn clk s k h e = clock-goes-on P (ltb clk clockEnd) s (k s) (λ l. h (ltb-true clk clockEnd l)) e
+  finish-goes-on P ends clk s k h e = absurd (ended e)
+  finish-goes-on P (calls vs) clk s k h e = absurd (calling _ _ _ _ e)
+  finish-goes-on P (delegates vs) clk s k h e = absurd (delegating _ _ _ _ e)
+
+  whole-run : (r : Ran S) → r ≡ record { answer = r .answer; steps = 0 + r .steps; state = r .state }
+  whole-run r = λ i. record { answer = r .answer; steps = sym (zero-add (r .steps)) i; state = r .state }
+
+-- Whole runs
+
+module _ (memory : Memory ℕ) (e : Environment) where
+  step-splits : (s : State memory) (x : Result (Next memory)) (k whole rest : State memory → Ran (State memory))
+      → ((s : State memory) → k s .answer ≡ Paused → whole s ≡ joined (k s) (rest (k s .state)))
+      → onStep memory s x k .answer ≡ Paused
+      → onStep memory s x whole ≡ joined (onStep memory s x k) (rest (onStep memory s x k .state))
+  step-splits s (refuse f) k whole rest h a = absurd (refused f a)
+  step-splits s (pass n) k whole rest h a = finish-splits (n .finish) (n .state .clk) (n .state) k whole rest h a
+
+  pub run-splits : (m n : ℕ) (s : State memory) → run memory e m s .answer ≡ Paused
+      → run memory e (m + n) s ≡ joined (run memory e m s) (run memory e n (run memory e m s .state))
+  unfolding run
+  run-splits zero n s a = ap (λ k. run memory e k s) (zero-add n) ∙ whole-run (run memory e n s)
+  run-splits (suc m) n s a =
+      ap (λ k. run memory e k s) (suc-add m n)
+      ∙ step-splits s (step memory e s) (run memory e m) (run memory e (m + n)) (run memory e n) (run-splits m n) a
+
+  step-goes-on : (s : State memory) (x : Result (Next memory)) (k : State memory → Ran (State memory))
+      → ((s : State memory) → s .clk < clockEnd → k s .answer ≡ Paused → k s .state .clk < clockEnd)
+      → onStep memory s x k .answer ≡ Paused → onStep memory s x k .state .clk < clockEnd
+  step-goes-on s (refuse f) k h a = absurd (refused f a)
+  step-goes-on s (pass n) k h a = finish-goes-on (λ t. t .clk < clockEnd) (n .finish) (n .state .clk) (n .state) k (h (n .state)) a
+
+  pub run-goes-on : (m : ℕ) (s : State memory) → s .clk < clockEnd → run memory e m s .answer ≡ Paused → run memory e m s .state .clk < clockEnd
+  unfolding run
+  run-goes-on zero s l a = l
+  run-goes-on (suc m) s l a = step-goes-on s (step memory e s) (run memory e m) (run-goes-on m) a
+
+  tainted-step-splits : (q : TaintedState memory) (x : Guarded (TaintedNext memory)) (k whole rest : TaintedState memory → Ran (TaintedState memory))
+      → ((q : TaintedState memory) → k q .answer ≡ Paused → whole q ≡ joined (k q) (rest (k q .state)))
+      → onTaintedStep memory q x k .answer ≡ Paused
+      → onTaintedStep memory q x whole ≡ joined (onTaintedStep memory q x k) (rest (onTaintedStep memory q x k .state))
+  tainted-step-splits q (refuses f) k whole rest h a = absurd (refused f a)
+  tainted-step-splits q sink k whole rest h a = absurd (at-sink a)
+  tainted-step-splits q (passes n) k whole rest h a =
+      finish-splits (n .next .finish) (n .next .state .clk) (record { plain = n .next .state; taints = n .taints }) k whole rest h a
+
+  pub tainted-run-splits : (m n : ℕ) (q : TaintedState memory) → taintedRun memory e m q .answer ≡ Paused
+      → taintedRun memory e (m + n) q ≡ joined (taintedRun memory e m q) (taintedRun memory e n (taintedRun memory e m q .state))
+  unfolding taintedRun
+  tainted-run-splits zero n q a = ap (λ k. taintedRun memory e k q) (zero-add n) ∙ whole-run (taintedRun memory e n q)
+  tainted-run-splits (suc m) n q a =
+      ap (λ k. taintedRun memory e k q) (suc-add m n)
+      ∙ tainted-step-splits q (taintedStep memory e q) (taintedRun memory e m) (taintedRun memory e (m + n)) (taintedRun memory e n)
+      (tainted-run-splits m n)
+      a
+
+  tainted-step-goes-on : (q : TaintedState memory) (x : Guarded (TaintedNext memory)) (k : TaintedState memory → Ran (TaintedState memory))
+      → ((q : TaintedState memory) → q .plain .clk < clockEnd → k q .answer ≡ Paused → k q .state .plain .clk < clockEnd)
+      → onTaintedStep memory q x k .answer ≡ Paused → onTaintedStep memory q x k .state .plain .clk < clockEnd
+  tainted-step-goes-on q (refuses f) k h a = absurd (refused f a)
+  tainted-step-goes-on q sink k h a = absurd (at-sink a)
+  tainted-step-goes-on q (passes n) k h a =
+      let left : TaintedState memory = record { plain = n .next .state; taints = n .taints } in
+      finish-goes-on (λ t. t .plain .clk < clockEnd) (n .next .finish) (n .next .state .clk) left k (h left) a
+
+  pub tainted-run-goes-on : (m : ℕ) (q : TaintedState memory) → q .plain .clk < clockEnd → taintedRun memory e m q .answer ≡ Paused
+      → taintedRun memory e m q .state .plain .clk < clockEnd
+  unfolding taintedRun
+  tainted-run-goes-on zero q l a = l
+  tainted-run-goes-on (suc m) q l a = tainted-step-goes-on q (taintedStep memory e q) (taintedRun memory e m) (tainted-run-goes-on m) a
