@@ -1,59 +1,103 @@
--- Meanings tell the answers apart: e3 is Paused and nothing else, 18 the sink and nothing else.
-use Prim.Native.Nat.{ℕ, _+_, _≤_}
-use mathlib.Core.Path.{_≡_, refl, ap}
-use mathlib.Core.List.{[]}
+-- Answers are known by their meanings: no two have the same.
+use Prim.Native.Nat.{ℕ}
+use mathlib.Core.Path.{_≡_, refl, sym, ap, _∙_}
+use mathlib.Core.List.{List, [], _∷_, map}
 use native.Mathlib.Omega.{arith}
+use lib.ListN.{getD}
 use Rattle.rules.specs.declared.Refusal.{Refusal}
 use Rattle.rules.specs.declared.Refusal.the-variants as R
 use Rattle.rules.specs.declared.Answer.{Answer}
 use Rattle.rules.specs.declared.Answer.the-variants as A
 use Rattle.rules.specs.Answers.{Meaning, outcome, refusal, refusalMeaning, meaning}
 
--- one number for each outcome and each refusal
-abbrev numberOf : Meaning → ℕ
-numberOf (outcome n vs) = 100 + n
-numberOf (refusal n vs) = n
+-- the answers of the outcomes, and of the refusals from 1 on
+outcomes : List ℕ → List Answer
+outcomes vs =
+    A.Ended
+    ∷ A.Calling (getD vs 0 0) (getD vs 1 0) (getD vs 2 0) (getD vs 3 0)
+    ∷ A.DelegateCalling (getD vs 0 0) (getD vs 1 0) (getD vs 2 0) (getD vs 3 0)
+    ∷ A.Paused
+    ∷ []
 
-refusal-number : (f : Refusal) → numberOf (refusalMeaning f) ≤ 17
-unfolding refusalMeaning
-refusal-number R.BadLength = omega arith
-refusal-number (R.MalformedFrame n) = omega arith
-refusal-number R.BadState = omega arith
-refusal-number R.NoInstruction = omega arith
-refusal-number R.UncoveredOpcode = omega arith
-refusal-number R.BadOperand = omega arith
-refusal-number R.NotInField = omega arith
-refusal-number R.NotSmall = omega arith
-refusal-number R.AssertFailed = omega arith
-refusal-number R.RangeCheckFailed = omega arith
-refusal-number R.CellAbsent = omega arith
-refusal-number R.SpanPastRegion = omega arith
-refusal-number R.TapeFault = omega arith
-refusal-number R.StoreFault = omega arith
-refusal-number R.ProphetStore = omega arith
-refusal-number R.NoCapacity = omega arith
-refusal-number R.ClockEnd = omega arith
+refusals : List ℕ → List Refusal
+refusals vs =
+    R.BadLength
+    ∷ R.MalformedFrame (getD vs 0 0)
+    ∷ R.BadState
+    ∷ R.NoInstruction
+    ∷ R.UncoveredOpcode
+    ∷ R.BadOperand
+    ∷ R.NotInField
+    ∷ R.NotSmall
+    ∷ R.AssertFailed
+    ∷ R.RangeCheckFailed
+    ∷ R.CellAbsent
+    ∷ R.SpanPastRegion
+    ∷ R.TapeFault
+    ∷ R.StoreFault
+    ∷ R.ProphetStore
+    ∷ R.NoCapacity
+    ∷ R.ClockEnd
+    ∷ []
 
-pub refusal-not-paused : (f : Refusal) → refusalMeaning f ≡ outcome 3 [] → ⊥
-refusal-not-paused f e = omega (arith, refusal-number f, ap numberOf e)
+-- the answer of a meaning; 18 is the one past the list's end
+answerOf : Meaning → Answer
+answerOf (outcome n vs) = getD (outcomes vs) n A.Ended
+answerOf (refusal ℕ.zero vs) = A.TaintedSink
+answerOf (refusal (ℕ.suc n) vs) = getD (map A.Refused (refusals vs)) n A.TaintedSink
 
-pub refusal-not-sink : (f : Refusal) → refusalMeaning f ≡ refusal 18 [] → ⊥
-refusal-not-sink f e = omega (arith, refusal-number f, ap numberOf e)
+refusal-back : (f : Refusal) → answerOf (refusalMeaning f) ≡ A.Refused f
+unfolding answerOf refusals refusalMeaning
+refusal-back R.BadLength = refl
+refusal-back (R.MalformedFrame n) = refl
+refusal-back R.BadState = refl
+refusal-back R.NoInstruction = refl
+refusal-back R.UncoveredOpcode = refl
+refusal-back R.BadOperand = refl
+refusal-back R.NotInField = refl
+refusal-back R.NotSmall = refl
+refusal-back R.AssertFailed = refl
+refusal-back R.RangeCheckFailed = refl
+refusal-back R.CellAbsent = refl
+refusal-back R.SpanPastRegion = refl
+refusal-back R.TapeFault = refl
+refusal-back R.StoreFault = refl
+refusal-back R.ProphetStore = refl
+refusal-back R.NoCapacity = refl
+refusal-back R.ClockEnd = refl
+
+answer-back : (a : Answer) → answerOf (meaning a) ≡ a
+unfolding answerOf refusals outcomes meaning
+answer-back A.Ended = refl
+answer-back (A.Calling a b c d) = refl
+answer-back (A.DelegateCalling a b c d) = refl
+answer-back A.Paused = refl
+answer-back (A.Refused f) = refusal-back f
+answer-back A.TaintedSink = refl
+
+pub meaning-injective : (a b : Answer) → meaning a ≡ meaning b → a ≡ b
+meaning-injective a b h = sym (answer-back a) ∙ (ap answerOf h ∙ answer-back b)
+
+-- e3 and 18
+
+pub paused-meaning : meaning A.Paused ≡ outcome 3 []
+unfolding meaning
+paused-meaning = refl
 
 pub paused-answer : (a : Answer) → meaning a ≡ outcome 3 [] → a ≡ A.Paused
+paused-answer a h = meaning-injective a A.Paused (h ∙ sym paused-meaning)
+
+pub refusal-not-paused : (f : Refusal) → refusalMeaning f ≡ outcome 3 [] → ⊥
 unfolding meaning
-paused-answer A.Ended e = absurd (omega (arith, ap numberOf e))
-paused-answer (A.Calling a b c d) e = absurd (omega (arith, ap numberOf e))
-paused-answer (A.DelegateCalling a b c d) e = absurd (omega (arith, ap numberOf e))
-paused-answer A.Paused e = refl
-paused-answer (A.Refused f) e = absurd (refusal-not-paused f e)
-paused-answer A.TaintedSink e = absurd (omega (arith, ap numberOf e))
+refusal-not-paused f h = let e : A.Refused f ≡ A.Paused = paused-answer (A.Refused f) h in let z : _≡_ {A = ℕ} 0 1 = cc in omega arith
+
+pub sink-meaning : meaning A.TaintedSink ≡ refusal 18 []
+unfolding meaning
+sink-meaning = refl
 
 pub sink-answer : (a : Answer) → meaning a ≡ refusal 18 [] → a ≡ A.TaintedSink
+sink-answer a h = meaning-injective a A.TaintedSink (h ∙ sym sink-meaning)
+
+pub refusal-not-sink : (f : Refusal) → refusalMeaning f ≡ refusal 18 [] → ⊥
 unfolding meaning
-sink-answer A.Ended e = absurd (omega (arith, ap numberOf e))
-sink-answer (A.Calling a b c d) e = absurd (omega (arith, ap numberOf e))
-sink-answer (A.DelegateCalling a b c d) e = absurd (omega (arith, ap numberOf e))
-sink-answer A.Paused e = absurd (omega (arith, ap numberOf e))
-sink-answer (A.Refused f) e = absurd (refusal-not-sink f e)
-sink-answer A.TaintedSink e = refl
+refusal-not-sink f h = let e : A.Refused f ≡ A.TaintedSink = sink-answer (A.Refused f) h in let z : _≡_ {A = ℕ} 0 1 = cc in omega arith

@@ -1,5 +1,5 @@
 -- The cases of document 01 hold of the definitions, by computation.
-use mathlib.Core.Path.{_≡_, refl}
+use mathlib.Core.Path.{refl}
 use Rattle.rules.specs.Solve.{kilosteps}
 use Rattle.rules.specs.Cases.{starred, StarredHold, others, OthersHold, KilostepsHold, listing, listingPrints, ListingHolds, listingFrames, listingWords, FramesHold}
 use Rattle.rules.proofs.Unfolding.{calling, printing}

@@ -11,6 +11,7 @@ pub mod LowRuns
 pub mod TaintedBesidePlain
 pub mod Unfolding
 pub mod CasesHold
+pub mod RefusalOrderHolds
 pub mod DecodedRegisters
 pub mod OverlayLaws
 pub mod EntryLaws

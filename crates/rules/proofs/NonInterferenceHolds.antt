@@ -8,7 +8,7 @@ use lib.ListN.{length}
 use Rattle.rules.specs.declared.Instruction.{Instruction}
 use Rattle.rules.specs.declared.Refusal.{Refusal}
 use Rattle.rules.specs.declared.Refusal.the-variants.{BadState}
-use Rattle.rules.specs.declared.Answer.the-variants.{Paused, TaintedSink}
+use Rattle.rules.specs.declared.Answer.the-variants.{TaintedSink}
 use Rattle.rules.specs.Numbers.{choose}
 use Rattle.rules.specs.Results.{Result, refuse, pass}
 use Rattle.rules.specs.Frames.{loadWords}
@@ -24,7 +24,7 @@ use Rattle.rules.specs.TaintRules.{Place, register, cell, Tainting}
 use Rattle.rules.specs.SinkRules.{ReachesUse, Comes}
 use Rattle.rules.specs.NonInterference.{TaintedBelow, LowEquivalent, SameCalls, MeetsSink, untainted, pausedAfter, startTaints, Reaches, reaches, Untainted, NonInterference}
 use Rattle.rules.proofs.BoolLaws.{and-left}
-use Rattle.rules.proofs.AnswerLaws.{sink-meaning, meaning-sink, refusal-not-sink}
+use Rattle.rules.proofs.AnswerLaws.{paused-meaning, sink-meaning, sink-answer, refusal-not-sink}
 use Rattle.rules.proofs.EntryLaws.{all-at}
 use Rattle.rules.proofs.DecodedRegisters.{AllInRange, LoadedInRange, loadWords-in-range, loadText-in-range, loadBudgetText-in-range}
 use Rattle.rules.proofs.LowStates.{StatesRelated}
@@ -125,7 +125,7 @@ module _ (program : List Instruction) (budget : ℕ) (g : TaintedSnapshot) where
       go false h = absurd (refusal-not-sink BadState h)
 
   run-sinks : MeetsSink (taintedCall (pass program) budget g) → guardedRun program budget g .answer ≡ TaintedSink
-  run-sinks a = meaning-sink _ (sym (ap (λ (c : Called TaintedSnapshot). c .answer) (call-run (sink-enters a))) ∙ a)
+  run-sinks a = sink-answer _ (sym (ap (λ (c : Called TaintedSnapshot). c .answer) (call-run (sink-enters a))) ∙ a)
 
 refused-no-sink : (f : Refusal) (budget : ℕ) (g : TaintedSnapshot) → MeetsSink (taintedCall (refuse f) budget g) → ⊥
 unfolding taintedCall
@@ -158,10 +158,6 @@ unfolding taintedCall
 unfit program budget g t {instructions} h =
     ap (λ x. taintedCall x budget g) h
     ∙ ap (λ b. choose b (taintedAnswered g (guardedRun instructions budget g)) (refused BadState g)) (entry-unfit g t)
-
-paused-meaning : meaning Paused ≡ outcome 3 []
-unfolding meaning
-paused-meaning = refl
 
 stops-early : (program : Result (List Instruction)) (budget : ℕ) (g : TaintedSnapshot) → MeetsSink (taintedCall program budget g)
     → (taintedCall program budget g .steps < budget)

@@ -13,7 +13,7 @@ use Rattle.rules.specs.Answers.{meaning, refusalMeaning}
 use Rattle.rules.specs.Entry.{all, plainEntry, taintedNumbersBelow, taintEntry, taintedEntry}
 use Rattle.rules.specs.Calls.{plainCall, taintedCall, plainWords, plainText, plainBudgetText, taintedWords, taintedText, taintedBudgetText}
 use Rattle.rules.specs.Solve.{solve, kilosteps, decimal, valueLines, carriedFields, printed, solveStart}
-use Rattle.rules.specs.Rows.{frame, bytes}
+use Rattle.rules.specs.Encoding.{frame, bytes}
 
 unfoldable pub numbers : Unit {0}
 unfolding onesIn trailingZeros p stackEnd heapEnd smallEnd wordEnd clockEnd frameLimit textLimit cellLimit valueLimit

@@ -7,7 +7,8 @@ use Rattle.rules.specs.declared.OlaOpcode.the-variants as O
 use Rattle.rules.specs.declared.OlaOperand.the-variants.{Absent, Immediate, Register}
 use Rattle.rules.specs.Answers.{outcome}
 use Rattle.rules.specs.Solve.{kilosteps, solve}
-use Rattle.rules.specs.Rows.{frame, bytes, start, withR, withTaintedR, withCell, withTape, withClk, Row, row, plain, tainted, e0, e3, refused, nothing, registerAt, cellAt, cellCount, clkOf, taintedRegisterAt}
+use Rattle.rules.specs.Encoding.{frame, bytes}
+use Rattle.rules.specs.Rows.{start, withR, withTaintedR, withCell, withTape, withClk, Row, row, Hold, plain, tainted, e0, e3, refused, nothing, registerAt, cellAt, cellCount, clkOf, taintedRegisterAt}
 
 -- The starred cases
 
@@ -79,7 +80,7 @@ starred =
     ∷ []
 
 abbrev pub StarredHold : Type 0
-StarredHold = map (λ r. r .rules) starred ≡ map (λ r. r .paper) starred
+StarredHold = Hold starred
 
 -- The others
 
@@ -103,7 +104,7 @@ others =
     ∷ []
 
 abbrev pub OthersHold : Type 0
-OthersHold = map (λ r. r .rules) others ≡ map (λ r. r .paper) others
+OthersHold = Hold others
 
 -- clk / 1000, to nearest, half up
 abbrev pub KilostepsHold : Type 0

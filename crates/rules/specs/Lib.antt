@@ -21,8 +21,12 @@ pub mod SinkRules
 pub mod NonInterference
 pub mod Relations
 pub mod MapAgreement
+pub mod Encoding
 pub mod Rows
 pub mod Cases
+pub mod RefusalOrder
+pub mod StoreOrder
+pub mod SinkOrder
 pub mod Soundness
 pub mod Resumption
 pub mod SplitCalls

@@ -1,15 +1,9 @@
--- How the tables of cases are written: the words of a frame, the bytes of a text, where a call starts, and a row: what the rules give
--- beside what document 01 says.
-use Prim.Native.Nat.{ℕ, zero, suc, _+_, _*_, _^_}
-use Prim.Native.Char.{code}
-use Prim.Native.String.{String, [] as end, _∷_ as _then_}
-use mathlib.Core.Bool.{Bool, true, false}
+-- How the tables of cases are written: where a call starts, and a row: what the rules give beside what document 01 says.
+use Prim.Native.Nat.{ℕ, _+_, _^_}
+use mathlib.Core.Path.{_≡_}
 use mathlib.Core.List.{List, [], _∷_, _++_, map}
 use lib.ListN.{length, getD, set, replicate}
 use Rattle.rules.specs.declared.OlaOpcode.{OlaOpcode}
-use Rattle.rules.specs.declared.OlaOpcode.the-variants as O
-use Rattle.rules.specs.declared.OlaOperand.{OlaOperand}
-use Rattle.rules.specs.declared.OlaOperand.the-variants.{Absent, Immediate, Register, RegisterWithOffset, RegisterWithFactor, Psp, Pc}
 use Rattle.rules.specs.Numbers.{defaultPsp, bit}
 use Rattle.rules.specs.Memory.{Slot, absent, present}
 use Rattle.rules.specs.Cells as Cells
@@ -17,81 +11,6 @@ use Rattle.rules.specs.Taint.{registerTaint}
 use Rattle.rules.specs.Answers.{Meaning, outcome, refusal}
 use Rattle.rules.specs.Entry.{Snapshot, TaintedSnapshot, stateOf, taintedRegisters, taintedStateOf}
 use Rattle.rules.specs.Calls.{Called, plainWords, taintedWords}
-
--- The words of a frame, by document 01's layout
-
-abbrev pub opcodeNumber : OlaOpcode → ℕ
-opcodeNumber O.Add = 0
-opcodeNumber O.Mul = 1
-opcodeNumber O.Eq = 2
-opcodeNumber O.Assert = 3
-opcodeNumber O.Mov = 4
-opcodeNumber O.Jmp = 5
-opcodeNumber O.Cjmp = 6
-opcodeNumber O.Call = 7
-opcodeNumber O.Ret = 8
-opcodeNumber O.Mload = 9
-opcodeNumber O.Mstore = 10
-opcodeNumber O.End = 11
-opcodeNumber O.Rc = 12
-opcodeNumber O.And = 13
-opcodeNumber O.Or = 14
-opcodeNumber O.Xor = 15
-opcodeNumber O.Not = 16
-opcodeNumber O.Neq = 17
-opcodeNumber O.Gte = 18
-opcodeNumber O.Poseidon = 19
-opcodeNumber O.Sload = 20
-opcodeNumber O.Sstore = 21
-opcodeNumber O.Tload = 22
-opcodeNumber O.Tstore = 23
-opcodeNumber O.Sccall = 24
-opcodeNumber O.Sigcheck = 25
-opcodeNumber O.Event = 26
-
-abbrev pub kindNumber : OlaOperand → ℕ
-kindNumber Absent = 0
-kindNumber (Immediate v) = 1
-kindNumber (Register r) = 2
-kindNumber (RegisterWithOffset r v) = 3
-kindNumber (RegisterWithFactor r v) = 4
-kindNumber Psp = 5
-kindNumber Pc = 6
-
-abbrev pub selector : OlaOperand → ℕ
-selector Absent = 0
-selector (Immediate v) = 0
-selector (Register r) = 2 ^ r
-selector (RegisterWithOffset r v) = 2 ^ r
-selector (RegisterWithFactor r v) = 2 ^ r
-selector Psp = 0
-selector Pc = 0
-
-abbrev pub valueWords : OlaOperand → List ℕ
-valueWords Absent = []
-valueWords (Immediate v) = v ∷ []
-valueWords (Register r) = []
-valueWords (RegisterWithOffset r v) = v ∷ []
-valueWords (RegisterWithFactor r v) = v ∷ []
-valueWords Psp = []
-valueWords Pc = []
-
--- opcode, op0, op1, dst
-unfoldable pub frame : OlaOpcode → OlaOperand → OlaOperand → OlaOperand → List ℕ
-frame o a b d =
-    (opcodeNumber o
-    + kindNumber a * 2 ^ 8
-    + kindNumber b * 2 ^ 11
-    + kindNumber d * 2 ^ 14
-    + selector a * 2 ^ 52
-    + selector b * 2 ^ 42
-    + selector d * 2 ^ 32)
-    ∷ (valueWords a ++ (valueWords b ++ valueWords d))
-
--- the bytes of a text
-unfoldable pub bytes : String → List ℕ
-bytes end = []
-bytes (c then s) = code c ∷ bytes s
 
 -- Where a call starts
 
@@ -147,6 +66,14 @@ withClk n s = from s.registers s.taints s.cells s.tape n s.free
 abbrev pub withFree : ℕ → ℕ → ℕ → Start → Start
 withFree c t o s = from s.registers s.taints s.cells s.tape s.clk (record { cells = c; tape = t; output = o })
 
+-- nothing more fits
+abbrev pub full : Start → Start
+full s = withFree 0 0 0 s
+
+-- cells 0 to 3 are present
+abbrev pub fourCells : Start → Start
+fourCells s = withCell 0 5 (withCell 1 6 (withCell 2 7 (withCell 3 8 s)))
+
 -- what is handed in
 abbrev pub taintedSnapshot : Start → TaintedSnapshot
 taintedSnapshot s =
@@ -193,6 +120,10 @@ row c look answer steps about =
       paper = record { answer = answer; steps = steps; about = about };
     }
 
+-- a table holds: in each row the rules give what document 01 says
+abbrev pub Hold : List Row → Type 0
+Hold rows = map (λ r. r .rules) rows ≡ map (λ r. r .paper) rows
+
 -- a plain or a tainted call of bare words: its budget, its words, its start
 abbrev pub plain : ℕ → List ℕ → Start → Called Snapshot
 plain budget words s = plainWords words budget (snapshot s)
@@ -237,3 +168,40 @@ taintedRegisterAt r g = registerAt r (g .plain) ++ (bit (registerTaint (taintedR
 
 abbrev pub taintedCellAt : ℕ → TaintedSnapshot → List ℕ
 taintedCellAt a g = cellAt a (g .plain) ++ slotNumber (Cells.get (taintedStateOf g .taints .cells) a)
+
+-- Two refusals that meet
+
+-- a call in which the conditions of two refusals hold, and that call with the first one mended: the answers, and no step is done
+pub record Pair : Type 0 where
+  pub both : Row
+  pub mended : Row
+
+abbrev pub pairOf : {S T : Type 0} → Meaning → Called S → Meaning → Called T → Pair
+pairOf m c n d = record { both = row c nothing m 0 []; mended = row d nothing n 0 [] }
+
+abbrev pub pair : {S T : Type 0} → ℕ → Called S → ℕ → Called T → Pair
+pair m c n d = pairOf (refused m) c (refused n) d
+
+-- one plain step: two programs from one start; one program from two starts
+abbrev pub inStep : Start → ℕ → List ℕ → ℕ → List ℕ → Pair
+inStep s m words n words′ = pair m (plain 1 words s) n (plain 1 words′ s)
+
+abbrev pub fromTwo : List ℕ → ℕ → Start → ℕ → Start → Pair
+fromTwo words m s n s′ = pair m (plain 1 words s) n (plain 1 words s′)
+
+-- one tainted step: two programs from one start
+abbrev pub inTaintedStep : Start → ℕ → List ℕ → ℕ → List ℕ → Pair
+inTaintedStep s m words n words′ = pair m (tainted 1 words s) n (tainted 1 words′ s)
+
+-- refusal 18 before another: a tainted step, and the plain step of the same
+abbrev pub sinkBefore : ℕ → List ℕ → Start → Pair
+sinkBefore n words s = pair 18 (tainted 1 words s) n (plain 1 words s)
+
+abbrev pub rowsOf : List Pair → List Row
+rowsOf [] = []
+rowsOf (q ∷ qs) = q .both ∷ (q .mended ∷ rowsOf qs)
+
+-- the same pairs for each of some opcodes
+abbrev pub forEach : List OlaOpcode → (OlaOpcode → List Pair) → List Pair
+forEach [] f = []
+forEach (o ∷ os) f = f o ++ forEach os f
