@@ -33,3 +33,4 @@ pub mod Growth
 pub mod RunSplits
 pub mod WrittenBehind
 pub mod CallSplits
+pub mod WitnessesHold

@@ -30,3 +30,4 @@ pub mod SinkOrder
 pub mod Soundness
 pub mod Resumption
 pub mod SplitCalls
+pub mod Witnesses

@@ -1,0 +1,161 @@
+-- The witnesses hold: they are computed, and their calls agree by demand 3.
+use Prim.Native.Nat.{ℕ, zero, suc, _<_}
+use mathlib.Core.Path.{_≡_, refl, ap}
+use mathlib.Core.Bool.{Bool, true, false, _&&_, _||_}
+use mathlib.Core.List.{List, [], _∷_}
+use native.Mathlib.Omega.{arith}
+use lib.Dec.{eqb}
+use lib.ListN.{length, getD}
+use borrow.Author.Tests.{eqb-true}
+use Rattle.rules.specs.Answers.{Meaning}
+use Rattle.rules.specs.Entry.{TaintedSnapshot, usedAddresses, usedNumbers, usedTape, usedOutput, usedTaints, taintedRegisters, taintedCells, taintedBelow}
+use Rattle.rules.specs.Calls.{taintedWords}
+use Rattle.rules.specs.NonInterference.{TaintedBelow, EqualUnless, LowEquivalent}
+use Rattle.rules.specs.Witnesses.{Witness, secret, carries, leaks, Carried, beyond, stores, Beyond, Witnesses}
+use Rattle.rules.proofs.BoolLaws.{false-true, and-left, and-right}
+use Rattle.rules.proofs.EntryLaws.{taintedBelow-at}
+use Rattle.rules.proofs.Unfolding.{calling}
+use Rattle.rules.proofs.NonInterferenceHolds.{words-hold}
+
+-- a test of two lists under taints, and what it says of each place
+abbrev alikeUnder : List Bool → List ℕ → List ℕ → Bool
+alikeUnder l [] [] = true
+alikeUnder l [] (w ∷ ws) = false
+alikeUnder l (v ∷ vs) [] = false
+alikeUnder [] (v ∷ vs) (w ∷ ws) = eqb v w && alikeUnder [] vs ws
+alikeUnder (b ∷ l) (v ∷ vs) (w ∷ ws) = (b || eqb v w) && alikeUnder l vs ws
+
+one-place : (b : Bool) (v w : ℕ) → (b || eqb v w) ≡ true → EqualUnless b v w
+one-place true v w h = tt
+one-place false v w h = eqb-true v w h
+
+no-place : (b : Bool) → EqualUnless b 0 0
+no-place true = tt
+no-place false = refl
+
+places : (l : List Bool) (vs ws : List ℕ) → alikeUnder l vs ws ≡ true → (i : ℕ) → EqualUnless (getD l i false) (getD vs i 0) (getD ws i 0)
+places l [] [] h i = no-place (getD l i false)
+places l [] (w ∷ ws) h i = absurd (false-true h)
+places l (v ∷ vs) [] h i = absurd (false-true h)
+places [] (v ∷ vs) (w ∷ ws) h zero = eqb-true v w (and-left _ (alikeUnder [] vs ws) h)
+places [] (v ∷ vs) (w ∷ ws) h (suc i) = places [] vs ws (and-right (eqb v w) _ h) i
+places (b ∷ l) (v ∷ vs) (w ∷ ws) h zero = one-place b v w (and-left _ (alikeUnder l vs ws) h)
+places (b ∷ l) (v ∷ vs) (w ∷ ws) h (suc i) = places l vs ws (and-right (b || eqb v w) _ h) i
+
+-- the same for a snapshot's tainted numbers
+below : (g : TaintedSnapshot) → taintedBelow (taintedRegisters g) (g .plain .machine .registers) ≡ true
+    → taintedBelow (taintedCells g) (usedNumbers (g .plain)) ≡ true → TaintedBelow g
+below g h k =
+    record {
+      registers = taintedBelow-at (taintedRegisters g) (g .plain .machine .registers) h;
+      cells = taintedBelow-at (taintedCells g) (usedNumbers (g .plain)) k;
+    }
+
+secret-alike : LowEquivalent (secret 7) (secret 8)
+unfolding secret calling
+secret-alike =
+    record {
+      pc = refl;
+      clk = refl;
+      psp = refl;
+      storage = refl;
+      cellCount = refl;
+      tapeCount = refl;
+      outputCount = refl;
+      addressLength = refl;
+      numberLength = refl;
+      taintLength = refl;
+      tapeLength = refl;
+      outputLength = refl;
+      addresses = refl;
+      taints = refl;
+      tape = refl;
+      output = refl;
+      numbers = places (taintedCells (secret 7)) (usedNumbers (secret 7 .plain)) (usedNumbers (secret 8 .plain)) refl;
+      registerTaints = refl;
+      ten = (refl, refl);
+      registers = places (taintedRegisters (secret 7)) (secret 7 .plain .machine .registers) (secret 8 .plain .machine .registers) refl;
+    }
+
+secret-below : TaintedBelow (secret 7) × TaintedBelow (secret 8)
+unfolding secret calling
+secret-below = (below (secret 7) refl refl, below (secret 8) refl refl)
+
+secret-differ : secret 7 ≡ secret 8 → ⊥
+unfolding secret calling
+secret-differ e = let z : _≡_ {A = ℕ} 7 8 = ap (λ (g : TaintedSnapshot). getD (g .plain .machine .registers) 1 0) e in omega arith
+
+-- a pair of alike starts is a witness by what one call computes
+witness : (words : List ℕ) (budget : ℕ) (g h : TaintedSnapshot) → (g ≡ h → ⊥) → LowEquivalent g h → TaintedBelow g × TaintedBelow h
+    → (answer : Meaning) (steps : ℕ) → taintedWords words budget g .answer ≡ answer → taintedWords words budget g .steps ≡ steps
+    → Witness words budget g h answer steps
+witness words budget g h differ alike below answer steps a s =
+    record {
+      differ = differ;
+      alike = alike;
+      below = below;
+      same = words-hold words budget .agrees g h alike (below .0) (below .1);
+      answers = a;
+      stepped = s;
+    }
+
+carried-holds : Carried
+unfolding secret carries calling
+carried-holds =
+    record {
+      ends = witness carries 10 (secret 7) (secret 8) secret-differ secret-alike secret-below _ _ refl refl;
+      seven = refl;
+      eight = refl;
+    }
+
+beyond-alike : LowEquivalent (beyond 3) (beyond 4)
+unfolding beyond calling
+beyond-alike =
+    record {
+      pc = refl;
+      clk = refl;
+      psp = refl;
+      storage = refl;
+      cellCount = refl;
+      tapeCount = refl;
+      outputCount = refl;
+      addressLength = refl;
+      numberLength = refl;
+      taintLength = refl;
+      tapeLength = refl;
+      outputLength = refl;
+      addresses = refl;
+      taints = refl;
+      tape = refl;
+      output = refl;
+      numbers = places (taintedCells (beyond 3)) (usedNumbers (beyond 3 .plain)) (usedNumbers (beyond 4 .plain)) refl;
+      registerTaints = refl;
+      ten = (refl, refl);
+      registers = places (taintedRegisters (beyond 3)) (beyond 3 .plain .machine .registers) (beyond 4 .plain .machine .registers) refl;
+    }
+
+beyond-below : TaintedBelow (beyond 3) × TaintedBelow (beyond 4)
+unfolding beyond calling
+beyond-below = (below (beyond 3) refl refl, below (beyond 4) refl refl)
+
+beyond-differ : beyond 3 ≡ beyond 4 → ⊥
+unfolding beyond
+beyond-differ e = let z : _≡_ {A = ℕ} 3 4 = ap (λ (g : TaintedSnapshot). getD (g .taints) 0 0) e in omega arith
+
+beyond-holds : Beyond
+unfolding beyond stores calling
+beyond-holds =
+    record {
+      pauses = witness stores 1 (beyond 3) (beyond 4) beyond-differ beyond-alike beyond-below _ _ refl refl;
+      addresses = refl;
+      taints = refl;
+    }
+
+pub witnesses : Witnesses
+unfolding secret leaks calling
+witnesses =
+    record {
+      carried = carried-holds;
+      leaked = witness leaks 2 (secret 7) (secret 8) secret-differ secret-alike secret-below _ _ refl refl;
+      beyond = beyond-holds;
+    }
