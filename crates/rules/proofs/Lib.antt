@@ -1,36 +1,49 @@
 -- What follows from the definitions of specs/.
+
+-- laws of tests, results, answers, memory, buffers and entries
 pub mod Computed
-pub mod Relational
 pub mod BoolLaws
+pub mod ResultLaws
+pub mod AnswerLaws
 pub mod CellLaws
-pub mod LowStates
-pub mod LowSteps
-pub mod PlainMapAgreement
-pub mod TaintedMapAgreement
-pub mod LowRuns
-pub mod TaintedBesidePlain
-pub mod Unfolding
-pub mod CasesHold
-pub mod RefusalOrderHolds
-pub mod DecodedRegisters
 pub mod OverlayLaws
 pub mod EntryLaws
+pub mod DecodedRegisters
+pub mod Relational
 pub mod Passing
+
+-- the tables of cases
+pub mod Unfolding
+pub mod CasesHold
+pub mod RefusalsHold
+pub mod RefusalOrderHolds
+
+-- taints and sinks are document 01's
+pub mod WrittenPlaces
+pub mod TaintsFollow
+pub mod SinksExact
+
+-- the rules over a plain map
+pub mod PlainMapAgreement
+pub mod TaintedMapAgreement
+
+-- demand 3
+pub mod LowStates
+pub mod LowSteps
+pub mod LowRuns
+pub mod LowSnapshots
+pub mod TaintedBesidePlain
+pub mod SinkRuns
+pub mod CleanRuns
+pub mod NonInterferenceHolds
+pub mod WitnessesHold
+
+-- states stay sound, and runs go on where they paused
 pub mod PlainSoundness
 pub mod TaintedSoundness
 pub mod EntrySoundness
 pub mod Resuming
-pub mod ResultLaws
-pub mod WrittenPlaces
-pub mod TaintsFollow
-pub mod SinksExact
-pub mod SinkRuns
-pub mod LowSnapshots
-pub mod AnswerLaws
-pub mod CleanRuns
-pub mod NonInterferenceHolds
 pub mod Growth
 pub mod RunSplits
 pub mod WrittenBehind
 pub mod CallSplits
-pub mod WitnessesHold

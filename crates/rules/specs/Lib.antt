@@ -27,6 +27,8 @@ pub mod Cases
 pub mod RefusalOrder
 pub mod StoreOrder
 pub mod SinkOrder
+pub mod EntryRefusals
+pub mod StepRefusals
 pub mod Soundness
 pub mod Resumption
 pub mod SplitCalls
