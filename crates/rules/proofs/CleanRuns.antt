@@ -118,15 +118,19 @@ clean-reaches r h (reading f n u) = no-read-use (clean-comes r h) u
 
 -- A snapshot without taints starts clean
 
-clean-cells : (l ts : List ℕ) → ((i : ℕ) → getD (map (λ t. eqb t 1) ts) i false ≡ false) → (a : ℕ) → slotTaint (cells ℕ) (get (zipped l ts) a) ≡ false
+not-tainted : (b : Bool) → (b ≡ true → ⊥) → b ≡ false
+not-tainted true h = absurd (h refl)
+not-tainted false h = refl
+
+clean-cells : (l ts : List ℕ) → ((i : ℕ) → getD (map (λ t. eqb t 1) ts) i false ≡ true → ⊥) → (a : ℕ) → slotTaint (cells ℕ) (get (zipped l ts) a) ≡ false
 clean-cells [] ts h a = refl
 clean-cells (b ∷ l) [] h a = refl
 clean-cells (b ∷ l) (t ∷ ts) h a = go (clean-cells l ts (λ i. h (ℕ.suc i)) a) (eqb b a)
   where
     go : slotTaint (cells ℕ) (get (zipped l ts) a) ≡ false → (c : Bool) → slotTaint (cells ℕ) (choose c (present t) (get (zipped l ts) a)) ≡ false
-    go k true = h 0
+    go k true = not-tainted (eqb t 1) (h 0)
     go k false = k
 
 pub clean-start : (g : TaintedSnapshot) → Untainted g → Clean (startTaints g)
-clean-start g u (register r) = u .registers r
+clean-start g u (register r) = not-tainted _ (u .registers r)
 clean-start g u (cell a) = clean-cells (usedAddresses (g .plain)) (usedTaints g) (u .cells) a

@@ -11,22 +11,18 @@ pub mod EntryLaws
 pub mod DecodedRegisters
 pub mod Relational
 pub mod Passing
-
 -- the tables of cases
 pub mod Unfolding
 pub mod CasesHold
 pub mod RefusalsHold
 pub mod RefusalOrderHolds
-
 -- taints and sinks are document 01's
 pub mod WrittenPlaces
 pub mod TaintsFollow
 pub mod SinksExact
-
 -- the rules over a plain map
 pub mod PlainMapAgreement
 pub mod TaintedMapAgreement
-
 -- demand 3
 pub mod LowStates
 pub mod LowSteps
@@ -37,7 +33,6 @@ pub mod SinkRuns
 pub mod CleanRuns
 pub mod NonInterferenceHolds
 pub mod WitnessesHold
-
 -- states stay sound, and runs go on where they paused
 pub mod PlainSoundness
 pub mod TaintedSoundness

@@ -22,7 +22,7 @@ use Rattle.rules.specs.Calls.{Called, refused, plainRun, guardedRun, pla
 use Rattle.rules.specs.Relations.{BothRan}
 use Rattle.rules.specs.TaintRules.{Place, register, cell, Tainting}
 use Rattle.rules.specs.SinkRules.{ReachesUse, Comes}
-use Rattle.rules.specs.NonInterference.{TaintedBelow, LowEquivalent, SameCalls, MeetsSink, untainted, pausedAfter, startTaints, Reaches, reaches, Untainted, NonInterference}
+use Rattle.rules.specs.NonInterference.{TaintedBelow, LowEquivalent, SameCalls, MeetsSink, SinkAfter, untainted, pausedAfter, startTaints, Reaches, reaches, Untainted, NonInterference}
 use Rattle.rules.proofs.BoolLaws.{and-left}
 use Rattle.rules.proofs.AnswerLaws.{paused-meaning, sink-meaning, sink-answer, refusal-not-sink}
 use Rattle.rules.proofs.EntryLaws.{all-at}
@@ -159,21 +159,21 @@ unfit program budget g t {instructions} h =
     ap (λ x. taintedCall x budget g) h
     ∙ ap (λ b. choose b (taintedAnswered g (guardedRun instructions budget g)) (refused BadState g)) (entry-unfit g t)
 
-stops-early : (program : Result (List Instruction)) (budget : ℕ) (g : TaintedSnapshot) → MeetsSink (taintedCall program budget g)
-    → (taintedCall program budget g .steps < budget)
-    × (plainCall program (taintedCall program budget g .steps) (g .plain)
-    ≡ pausedAfter (taintedCall program budget g .steps) (taintedCall program budget g .left .plain))
-stops-early (refuse f) budget g a = absurd (refused-no-sink f budget g a)
-stops-early (pass program) budget g a =
-    let t = sink-enters program budget g a in
-    let h = run-beside (cells ℕ) (environment program (g .plain)) budget (taintedStateOf g) .early (run-sinks program budget g a) in
-    subst (λ (c : Called TaintedSnapshot). (c .steps < budget) × (plainCall (pass program) (c .steps) (g .plain) ≡ pausedAfter (c .steps) (c .left .plain)))
-    (sym (call-run program budget g t))
-    (h .0,
-    plain-run program budget g (guardedRun program budget g .steps) t
-    ∙ (ap (plainAnswered (g .plain)) (h .1)
-    ∙ ap (λ (m : Meaning). record { answer = m; steps = guardedRun program budget g .steps; left = snapshotAfter (g .plain) (guardedRun program budget g .state .plain) })
-    paused-meaning))
+stops-early : (program : Result (List Instruction)) (budget : ℕ) (g : TaintedSnapshot) (k : ℕ) → SinkAfter k (taintedCall program budget g)
+    → (k < budget) × (plainCall program k (g .plain) ≡ pausedAfter k (taintedCall program budget g .left .plain))
+stops-early (refuse f) budget g k a = absurd (refused-no-sink f budget g (a .0))
+stops-early (pass program) budget g k a =
+    let t = sink-enters program budget g (a .0) in
+    let h = run-beside (cells ℕ) (environment program (g .plain)) budget (taintedStateOf g) .early (run-sinks program budget g (a .0)) in
+    subst (λ k. (k < budget) × (plainCall (pass program) k (g .plain) ≡ pausedAfter k (taintedCall (pass program) budget g .left .plain))) (a .1)
+    (subst (λ (c : Called TaintedSnapshot). (c .steps < budget) × (plainCall (pass program) (c .steps) (g .plain) ≡ pausedAfter (c .steps) (c .left .plain)))
+    (sym (call-run program budget g t)) (
+      h .0,
+      plain-run program budget g (guardedRun program budget g .steps) t
+          ∙ (ap (plainAnswered (g .plain)) (h .1)
+          ∙ ap (λ (m : Meaning). record { answer = m; steps = guardedRun program budget g .steps; left = snapshotAfter (g .plain) (guardedRun program budget g .state .plain) })
+          paused-meaning),
+    ))
 
 -- Exactly at a listed use
 
@@ -185,23 +185,24 @@ start-same g = pointwise places
     places (cell a) = refl
 
 sink-reaches : (program : Result (List Instruction)) → LoadedInRange program → (budget : ℕ) (g : TaintedSnapshot) (k : ℕ)
-    → MeetsSink (taintedCall program budget g) × (taintedCall program budget g .steps ≡ k) → (k < budget) × Reaches program g k
+    → SinkAfter k (taintedCall program budget g) → (k < budget) × Reaches program g k
 sink-reaches (refuse f) l budget g k h = absurd (refused-no-sink f budget g (h .0))
 sink-reaches (pass program) l budget g k h =
     let t = sink-enters program budget g (h .0) in
     let e = environment program (g .plain) in
     let w = sinks-came e l budget (taintedStateOf g) refl (run-sinks program budget g (h .0)) in
     let s : guardedRun program budget g .steps ≡ k = sym (ap (λ (c : Called TaintedSnapshot). c .steps) (call-run program budget g t)) ∙ h .1 in
-    subst (λ k. (k < budget) × Reaches (pass program) g k) s
-    (w .below,
-    reaches t
-    (subst (λ (x : Tainting). Comes e (stateOf (g .plain)) x (guardedRun program budget g .steps) (guardedRun program budget g .state .plain) (taintingOf (guardedRun program budget g .state .taints)))
-    (sym (start-same g))
-    (w .comes))
-    (w .reaches))
+    subst (λ k. (k < budget) × Reaches (pass program) g k) s (
+      w .below,
+      reaches t
+          (subst (λ (x : Tainting). Comes e (stateOf (g .plain)) x (guardedRun program budget g .steps) (guardedRun program budget g .state .plain) (taintingOf (guardedRun program budget g .state .taints)))
+          (sym (start-same g))
+          (w .comes))
+          (w .reaches),
+    )
 
 reaches-sink : (program : Result (List Instruction)) → LoadedInRange program → (budget : ℕ) (g : TaintedSnapshot) (k : ℕ) → k < budget → Reaches program g k
-    → MeetsSink (taintedCall program budget g) × (taintedCall program budget g .steps ≡ k)
+    → SinkAfter k (taintedCall program budget g)
 reaches-sink x l budget g k b (reaches {program} t c u) =
     let w = comes-sinks (environment program (g .plain)) l c budget b (taintedStateOf g .taints) (start-same g) refl u in
     let e = call-run program budget g t ∙ ap (taintedAnswered g) (w .runs) in

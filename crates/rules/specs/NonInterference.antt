@@ -18,10 +18,22 @@ use Rattle.rules.specs.Calls.{Called, refused}
 use Rattle.rules.specs.TaintRules.{Place, register, cell, Tainting}
 use Rattle.rules.specs.SinkRules.{ReachesUse, Comes}
 
--- 'Marked': a register, or a used cell, whose mark is 1; each tainted number of a snapshot is below p
+-- 'Marked': a register, or a used cell, whose mark is 1
+abbrev pub TaintedRegister : TaintedSnapshot → ℕ → Type 0
+TaintedRegister g r = getD (taintedRegisters g) r false ≡ true
+
+abbrev pub TaintedCell : TaintedSnapshot → ℕ → Type 0
+TaintedCell g i = getD (taintedCells g) i false ≡ true
+
+-- each marked number is below p
 pub record TaintedBelow (g : TaintedSnapshot) : Type 0 where
-  pub registers : (r : ℕ) → getD (taintedRegisters g) r false ≡ true → getD (g .plain .machine .registers) r 0 < p
-  pub cells : (i : ℕ) → getD (taintedCells g) i false ≡ true → getD (usedNumbers (g .plain)) i 0 < p
+  pub registers : (r : ℕ) → TaintedRegister g r → getD (g .plain .machine .registers) r 0 < p
+  pub cells : (i : ℕ) → TaintedCell g i → getD (usedNumbers (g .plain)) i 0 < p
+
+-- nothing is marked
+pub record Untainted (g : TaintedSnapshot) : Type 0 where
+  pub registers : (r : ℕ) → TaintedRegister g r → ⊥
+  pub cells : (i : ℕ) → TaintedCell g i → ⊥
 
 -- two numbers at one place: equal where it is untainted, any two where it is tainted
 abbrev pub EqualUnless : Bool → ℕ → ℕ → Type 0
@@ -64,9 +76,12 @@ pub record SameCalls (c d : Called TaintedSnapshot) : Type 0 where
   pub steps : c .steps ≡ d .steps
   pub left : LowEquivalent (c .left) (d .left)
 
--- the call meets 18
+-- the call meets 18; '18 after k steps'
 abbrev pub MeetsSink : Called TaintedSnapshot → Type 0
 MeetsSink c = c .answer ≡ refusal 18 []
+
+abbrev pub SinkAfter : ℕ → Called TaintedSnapshot → Type 0
+SinkAfter k c = MeetsSink c × (c .steps ≡ k)
 
 -- a call without its taints
 abbrev pub untainted : Called TaintedSnapshot → Called Snapshot
@@ -81,18 +96,13 @@ abbrev pub startTaints : TaintedSnapshot → Tainting
 startTaints g (register r) = registerTaint (taintedRegisters g) r
 startTaints g (cell a) = slotTaint (cells ℕ) (get (zipped (usedAddresses (g .plain)) (usedTaints g)) a)
 
--- the call passes entry, comes to a state after k steps, and the next step reaches a listed use
+-- 'Reaches a listed use': the call passes entry, comes to a state after k steps, and the next step reaches a use
 pub data Reaches : Result (List Instruction) → TaintedSnapshot → ℕ → Type 0 where
   reaches : {program : List Instruction} {g : TaintedSnapshot} {k : ℕ} {s : State (cells ℕ)} {t : Tainting}
       → taintedEntry g ≡ true
       → Comes (environment program (g .plain)) (stateOf (g .plain)) (startTaints g) k s t
       → ReachesUse (environment program (g .plain)) s t
       → Reaches (pass program) g k
-
--- no number of a snapshot is tainted
-pub record Untainted (g : TaintedSnapshot) : Type 0 where
-  pub registers : (r : ℕ) → getD (taintedRegisters g) r false ≡ false
-  pub cells : (i : ℕ) → getD (taintedCells g) i false ≡ false
 
 -- Of a program as loaded, with a budget: the tainted call beside itself and beside the plain call
 pub record NonInterference
@@ -109,12 +119,10 @@ pub record NonInterference
   -- one whose taints an entry refuses is refused 3 and leaves everything, unless the program is refused
   pub unfit : (g : TaintedSnapshot) → taintEntry g ≡ false → {instructions : List Instruction} → program ≡ pass instructions
       → tainted g ≡ refused BadState g
-  -- one that meets 18 after k steps: k is below the budget, and it leaves what the plain call with budget k leaves, which is paused
-  pub stopsEarly : (g : TaintedSnapshot) → MeetsSink (tainted g)
-      → (tainted g .steps < budget)
-      × (plain (tainted g .steps) (g .plain) ≡ pausedAfter (tainted g .steps) (tainted g .left .plain))
+  -- one that meets 18 after k steps, which is below the budget, leaves what the plain call with budget k leaves: that is e3 after k steps
+  pub stopsEarly : (g : TaintedSnapshot) (k : ℕ) → SinkAfter k (tainted g)
+      → (k < budget) × (plain k (g .plain) ≡ pausedAfter k (tainted g .left .plain))
   -- 18 after k steps exactly where the step after k steps reaches a listed use
-  pub exact : (g : TaintedSnapshot) (k : ℕ)
-      → (MeetsSink (tainted g) × (tainted g .steps ≡ k)) ↔ ((k < budget) × Reaches program g k)
+  pub exact : (g : TaintedSnapshot) (k : ℕ) → SinkAfter k (tainted g) ↔ ((k < budget) × Reaches program g k)
   -- a start with no taints never meets 18
   pub clean : (g : TaintedSnapshot) → Untainted g → MeetsSink (tainted g) → ⊥
