@@ -1,8 +1,7 @@
 -- Two tainted runs from states that differ in tainted numbers alone: each step of the one is a step of the other.
 use Prim.Native.Nat.{ℕ, zero, suc, _<_}
-use mathlib.Core.Path.{_≡_, refl, sym, ap, subst}
+use mathlib.Core.Path.{_≡_, refl, ap, subst}
 use mathlib.Core.Bool.{Bool, true, false}
-use mathlib.Core.List.{List}
 use Rattle.rules.specs.declared.OlaOpcode.{OlaOpcode}
 use Rattle.rules.specs.declared.OlaOpcode.the-variants as O
 use Rattle.rules.specs.declared.Instruction.{Instruction}
@@ -14,7 +13,7 @@ use Rattle.rules.specs.Opcodes.{Class, field, equality, small, complemen
 use Rattle.rules.specs.Operands.{fetch, wantsOf, Operands, operands}
 use Rattle.rules.specs.Step.{Environment, State, Next, fits, capacity, Ran}
 use Rattle.rules.specs.Taint.{operandTaint, sinksOf, operandSink, Taints, readSink, taintsAfter, TaintedState, TaintedNext, taintedRest, taintedStep, onTaintedStep, taintedRun}
-use Rattle.rules.specs.Relations.{Both, refused, passed, BothGuarded, refused-alike, sink-alike, passed-alike, BothRan}
+use Rattle.rules.specs.Relations.{passed, BothGuarded, refused-alike, sink-alike, passed-alike, BothRan}
 use Rattle.rules.proofs.Relational.{both-equal, both-require, both-after, both-finish}
 use Rattle.rules.proofs.BoolLaws.{or-left, or-right}
 use Rattle.rules.proofs.LowStates.{StatesRelated, NextRelated, mod-below, untainted, cells-count}

@@ -8,13 +8,12 @@ use lib.Dec.{leb, eqb}
 use lib.ListN.{length, getD, take, drop, length-append, length-take, length-drop}
 use lib.Seq.{take-append-le}
 use borrow.Author.Tests.{eqb-true}
-use Rattle.rules.specs.declared.Instruction.{Instruction}
 use Rattle.rules.specs.Numbers.{p}
 use Rattle.rules.specs.Cells as Cells
 use Rattle.rules.specs.Cells.{Cells, zipped, count, cells}
 use Rattle.rules.specs.Step.{State, isStorable, overlay}
 use Rattle.rules.specs.Taint.{Taints}
-use Rattle.rules.specs.Entry.{Snapshot, TaintedSnapshot, usedAddresses, usedNumbers, usedTape, usedTaints, lowBits, wordOfBits, taintedRegisters, taintedCells, every, risingFrom, all, plainEntry, taintedNumbersBelow, taintEntry, taintedEntry, environment, stateOf, taintedStateOf, snapshotAfter, taintedSnapshotAfter}
+use Rattle.rules.specs.Entry.{TaintedSnapshot, usedAddresses, usedNumbers, usedTaints, lowBits, wordOfBits, taintedRegisters, taintedCells, every, risingFrom, all, plainEntry, taintedNumbersBelow, taintEntry, taintedEntry, stateOf, taintedStateOf, taintedSnapshotAfter}
 use Rattle.rules.specs.NonInterference.{TaintedBelow, EqualUnless, Agree, LowEquivalent}
 use Rattle.rules.proofs.CellLaws.{length-addresses, length-contents}
 use Rattle.rules.proofs.EntryLaws.{all-at, taintedBelow-of, lowBits-word}

@@ -5,14 +5,14 @@ use mathlib.Core.Bool.{Bool, true, false, _||_}
 use mathlib.Core.List.{List, [], _∷_}
 use native.Mathlib.Omega.{arith}
 use native.Mathlib.Nat.{mod-lt}
-use lib.Dec.{ltb, leb, eqb, lit<}
+use lib.Dec.{ltb, eqb, lit<}
 use lib.ListN.{length, getD, set}
 use borrow.Author.Tests.{lt-ltb, le-leb}
 use Rattle.rules.specs.declared.OlaOperand.{OlaOperand}
 use Rattle.rules.specs.declared.OlaOperand.the-variants.{Absent, Immediate, Register, RegisterWithOffset, RegisterWithFactor, Psp, Pc}
 use Rattle.rules.specs.declared.Refusal.the-variants.{NotInField, CellAbsent, StoreFault, ProphetStore, SpanPastRegion}
 use Rattle.rules.specs.Numbers.{p, choose, bit}
-use Rattle.rules.specs.Results.{Result, refuse, pass, bind}
+use Rattle.rules.specs.Results.{pass, bind}
 use Rattle.rules.specs.Field.{isElement, fieldAdd, fieldMul}
 use Rattle.rules.specs.Memory.{Slot, absent, present}
 use Rattle.rules.specs.Cells.{Cells, none, cell, get, put, count, cells}

@@ -1,11 +1,11 @@
 -- Two states that differ in tainted numbers alone: past the operands' sinks, each class of opcodes does the same to both.
-use Prim.Native.Nat.{ℕ, zero, suc, _+_, _-_, _<_, _≤_}
-use mathlib.Core.Path.{_≡_, refl, sym, ap, subst, _∙_}
-use mathlib.Core.Bool.{Bool, true, false, not, _&&_, _||_}
-use mathlib.Core.List.{List, [], _∷_, _++_}
+use Prim.Native.Nat.{ℕ, suc, _+_, _-_, _<_, _≤_}
+use mathlib.Core.Path.{_≡_, refl, ap, subst, _∙_}
+use mathlib.Core.Bool.{Bool, true, false, not, _||_}
+use mathlib.Core.List.{List, _++_}
 use native.Mathlib.Omega.{arith}
 use lib.Dec.{leb, eqb}
-use lib.ListN.{length, getD, set, length-set, length-append}
+use lib.ListN.{length, length-set, length-append}
 use Rattle.rules.specs.declared.Instruction.{Instruction}
 use Rattle.rules.specs.declared.Refusal.the-variants.{NotInField, NotSmall, AssertFailed, RangeCheckFailed, StoreFault, TapeFault}
 use Rattle.rules.specs.Numbers.{p, choose, bit}
@@ -13,20 +13,17 @@ use Rattle.rules.specs.Field.{fieldAdd, fieldComplement}
 use Rattle.rules.specs.Cells.{Cells, put, cells}
 use Rattle.rules.specs.Opcodes.{Class, field, equality, small, complement, move, assert, rangeCheck, jump, conditionalJump, call, return, load, store, tapeLoad, tapeStore, contractCall, end, uncovered}
 use Rattle.rules.specs.Operands.{binaryLength, wantsOf, Operands, operands}
-use Rattle.rules.specs.Step.{Environment, State, Finish, Next, r9, nextPc, readBelow, storeMany, storeOne, onTape, tapeValues, wraps, overlay, writesRegister, writesCells, writesTape, operate}
-use Rattle.rules.specs.Taint.{registerTaint, operandTaint, sinksOf, operandSink, Taints, cellTaint, readSink, taintsRegister, taintsCell, cleanMany, taintsAfter}
+use Rattle.rules.specs.Step.{Environment, State, Finish, r9, nextPc, readBelow, storeMany, storeOne, onTape, tapeValues, wraps, overlay, writesRegister, writesCells, writesTape, operate}
+use Rattle.rules.specs.Taint.{registerTaint, operandTaint, Taints, cellTaint, readSink, taintsRegister, taintsCell, cleanMany, taintsAfter}
 use Rattle.rules.specs.Relations.{Both, refused, passed}
 use Rattle.rules.proofs.Relational.{both-bind, both-require}
-use Rattle.rules.proofs.BoolLaws.{or-left, or-right}
 use Rattle.rules.proofs.LowStates.{
   Related,
   equal,
-  hidden,
   StatesRelated,
   NextRelated,
   CellsRelated,
   one-below,
-  mod-below,
   related-element,
   untainted,
   equally,

@@ -2,9 +2,7 @@
 use Prim.Native.Nat.{ℕ, _<_}
 use mathlib.Core.Path.{_≡_, refl, sym, ap, subst, _∙_}
 use mathlib.Core.Bool.{Bool, true, false, _&&_}
-use mathlib.Core.List.{List, [], _∷_}
-use native.Mathlib.Omega.{arith}
-use lib.ListN.{length}
+use mathlib.Core.List.{List}
 use Rattle.rules.specs.declared.Instruction.{Instruction}
 use Rattle.rules.specs.declared.Refusal.{Refusal}
 use Rattle.rules.specs.declared.Refusal.the-variants.{BadState}
@@ -14,25 +12,23 @@ use Rattle.rules.specs.Results.{Result, refuse, pass}
 use Rattle.rules.specs.Frames.{loadWords}
 use Rattle.rules.specs.Text.{loadText, loadBudgetText}
 use Rattle.rules.specs.Cells.{zipped, cells}
-use Rattle.rules.specs.Step.{Environment, State, Ran, run}
-use Rattle.rules.specs.Taint.{Taints, TaintedState, taintedRun}
-use Rattle.rules.specs.Answers.{Meaning, outcome, refusal, meaning, refusalMeaning}
-use Rattle.rules.specs.Entry.{Snapshot, TaintedSnapshot, lowBits, all, plainEntry, taintEntry, taintedEntry, environment, stateOf, taintedStateOf, snapshotAfter, taintedSnapshotAfter}
-use Rattle.rules.specs.Calls.{Called, refused, plainRun, guardedRun, plainAnswered, taintedAnswered, plainCall, taintedCall, jobBudget, jobProgram, plainWords, plainText, plainBudgetText, taintedWords, taintedText, taintedBudgetText}
+use Rattle.rules.specs.Step.{Ran}
+use Rattle.rules.specs.Taint.{TaintedState, taintedRun}
+use Rattle.rules.specs.Answers.{Meaning, meaning}
+use Rattle.rules.specs.Entry.{TaintedSnapshot, lowBits, all, plainEntry, taintEntry, taintedEntry, environment, stateOf, taintedStateOf, snapshotAfter, taintedSnapshotAfter}
+use Rattle.rules.specs.Calls.{Called, refused, plainRun, guardedRun, plainAnswered, taintedAnswered, plainCall, taintedCall, jobBudget, jobProgram, plainWords, plainText, taintedWords, taintedText, taintedBudgetText}
 use Rattle.rules.specs.Relations.{BothRan}
 use Rattle.rules.specs.TaintRules.{Place, register, cell, Tainting}
-use Rattle.rules.specs.SinkRules.{ReachesUse, Comes}
+use Rattle.rules.specs.SinkRules.{Comes}
 use Rattle.rules.specs.NonInterference.{TaintedBelow, LowEquivalent, SameCalls, MeetsSink, SinkAfter, untainted, pausedAfter, startTaints, Reaches, reaches, Untainted, NonInterference}
-use Rattle.rules.proofs.BoolLaws.{and-left}
 use Rattle.rules.proofs.AnswerLaws.{paused-meaning, sink-meaning, sink-answer, refusal-not-sink}
 use Rattle.rules.proofs.EntryLaws.{all-at}
-use Rattle.rules.proofs.DecodedRegisters.{AllInRange, LoadedInRange, loadWords-in-range, loadText-in-range, loadBudgetText-in-range}
-use Rattle.rules.proofs.LowStates.{StatesRelated}
+use Rattle.rules.proofs.DecodedRegisters.{LoadedInRange, loadWords-in-range, loadText-in-range, loadBudgetText-in-range}
 use Rattle.rules.proofs.LowRuns.{TaintedRelated, run-agrees}
 use Rattle.rules.proofs.LowSnapshots.{close, taintedEntry-same, states-related, snapshots-left}
 use Rattle.rules.proofs.TaintedBesidePlain.{run-beside}
 use Rattle.rules.proofs.TaintsFollow.{taintingOf}
-use Rattle.rules.proofs.SinkRuns.{sunk, comes-sinks, sinks-came, pointwise}
+use Rattle.rules.proofs.SinkRuns.{comes-sinks, sinks-came, pointwise}
 use Rattle.rules.proofs.CleanRuns.{clean-reaches, clean-start}
 
 -- Two low-equivalent calls

@@ -4,7 +4,7 @@ use mathlib.Core.Path.{_≡_, refl}
 use mathlib.Core.Bool.{Bool, true, false}
 use native.Mathlib.Omega.{arith}
 use Rattle.rules.specs.declared.Refusal.{Refusal}
-use Rattle.rules.specs.Results.{Result, refuse, pass, require, bind, Guarded, refuses, sink, passes, after, guard}
+use Rattle.rules.specs.Results.{Result, refuse, pass, require, bind, Guarded, sink, passes, after, guard}
 
 pub refuse-pass : {A X : Type 0} {f : Refusal} {a : A} → refuse f ≡ pass a → X
 refuse-pass h = absurd (let z : _≡_ {A = ℕ} 0 1 = cc in omega arith)

@@ -7,18 +7,17 @@ use lib.Dec.{ltb}
 use lib.ListN.{length, length-set}
 use borrow.Author.Tests.{ltb-true, lt-ltb}
 use Rattle.rules.specs.declared.Instruction.{Instruction}
-use Rattle.rules.specs.declared.Refusal.{Refusal}
 use Rattle.rules.specs.declared.Answer.the-variants.{TaintedSink}
 use Rattle.rules.specs.Numbers.{clockEnd}
 use Rattle.rules.specs.Results.{Result, refuse, pass, Guarded, refuses, sink, passes}
 use Rattle.rules.specs.Cells.{cells}
 use Rattle.rules.specs.Opcodes.{Class, field, equality, small, complement, move, assert, rangeCheck, jump, conditionalJump, call, return, load, store, tapeLoad, tapeStore, contractCall, end, uncovered, classOf}
 use Rattle.rules.specs.Operands.{Operands}
-use Rattle.rules.specs.Step.{Environment, State, Finish, goesOn, ends, calls, delegates, Next, step, Ran, stopsAt, afterStep, onClock, onFinish}
+use Rattle.rules.specs.Step.{Environment, State, Finish, goesOn, ends, calls, delegates, Next, step, Ran, afterStep, onClock, onFinish}
 use Rattle.rules.specs.Taint.{Taints, taintsAfter, TaintedState, TaintedNext, taintedRest, taintedStep, onTaintedStep, taintedRun}
 use Rattle.rules.specs.TaintRules.{Place, Tainting, TaintedAfter}
 use Rattle.rules.specs.SinkRules.{Fetched, ReachesUse, Accepted, Comes, start, onward}
-use Rattle.rules.proofs.ResultLaws.{pass-injective, require-pass, after-passes, guard-passes}
+use Rattle.rules.proofs.ResultLaws.{pass-injective, after-passes, guard-passes}
 use Rattle.rules.proofs.DecodedRegisters.{AllInRange, fetch-in-range}
 use Rattle.rules.proofs.TaintedBesidePlain.{Beside, at-sink, refused, passed, step-beside}
 use Rattle.rules.proofs.TaintsFollow.{taintingOf, taints-exact}

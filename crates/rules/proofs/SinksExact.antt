@@ -1,5 +1,5 @@
 -- A tainted step stops at a sink exactly where it reaches a listed use.
-use Prim.Native.Nat.{ℕ, zero, suc, _+_, _-_, _<_, _≤_}
+use Prim.Native.Nat.{ℕ, zero, suc, _+_, _<_, _≤_}
 use mathlib.Core.Path.{_≡_, refl, sym, subst, _∙_}
 use mathlib.Core.Bool.{Bool, true, false, _||_}
 use native.Mathlib.Omega.{arith}
@@ -16,7 +16,7 @@ use Rattle.rules.specs.Opcodes.{classOf}
 use Rattle.rules.specs.Operands.{Operands}
 use Rattle.rules.specs.Step.{Environment, State, Next, operate, capacity}
 use Rattle.rules.specs.Taint.{operandTaint, sinksOf, operandSink, Taints, cellTaint, spanTaint, readSink, taintsAfter, TaintedState, TaintedNext, taintedRest, taintedStep}
-use Rattle.rules.specs.TaintRules.{Place, cell, Tainting, OperandTainted, of-register, of-offset, of-factor}
+use Rattle.rules.specs.TaintRules.{OperandTainted, of-register, of-offset, of-factor}
 use Rattle.rules.specs.SinkRules.{
   mload,
   mstore,

@@ -6,14 +6,13 @@ use native.Mathlib.Omega.{arith}
 use lib.Dec.{ltb}
 use Rattle.rules.specs.declared.Refusal.{Refusal}
 use Rattle.rules.specs.declared.Refusal.the-variants.{NoCapacity, ClockEnd}
-use Rattle.rules.specs.declared.Answer.{Answer}
-use Rattle.rules.specs.declared.Answer.the-variants.{Ended, Calling, DelegateCalling, Paused, Refused, TaintedSink}
+use Rattle.rules.specs.declared.Answer.the-variants.{Paused, Refused, TaintedSink}
 use Rattle.rules.specs.Numbers.{clockEnd}
 use Rattle.rules.specs.Results.{Result, refuse, pass, require, bind, Guarded, refuses, sink, passes, after, guard}
 use Rattle.rules.specs.Memory.{Memory}
 use Rattle.rules.specs.Opcodes.{classOf}
 use Rattle.rules.specs.Operands.{fetch, operands}
-use Rattle.rules.specs.Step.{Environment, State, Finish, goesOn, ends, calls, delegates, Next, operate, fits, step, Ran, stopsAt, afterStep, onClock, onFinish, onStep, run}
+use Rattle.rules.specs.Step.{Environment, State, Finish, goesOn, ends, calls, delegates, Next, operate, fits, step, Ran, afterStep, onClock, onFinish, onStep, run}
 use Rattle.rules.specs.Taint.{operandSink, Taints, readSink, taintsAfter, TaintedState, TaintedNext, taintedRest, taintedStep, onTaintedStep, taintedRun}
 
 -- refusal 18 is no other answer

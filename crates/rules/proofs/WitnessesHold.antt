@@ -1,14 +1,14 @@
 -- The witnesses hold: they are computed, and their calls agree by demand 3.
-use Prim.Native.Nat.{ℕ, zero, suc, _<_}
+use Prim.Native.Nat.{ℕ, zero, suc}
 use mathlib.Core.Path.{_≡_, refl, ap}
 use mathlib.Core.Bool.{Bool, true, false, _&&_, _||_}
 use mathlib.Core.List.{List, [], _∷_}
 use native.Mathlib.Omega.{arith}
 use lib.Dec.{eqb}
-use lib.ListN.{length, getD}
+use lib.ListN.{getD}
 use borrow.Author.Tests.{eqb-true}
 use Rattle.rules.specs.Answers.{Meaning}
-use Rattle.rules.specs.Entry.{TaintedSnapshot, usedAddresses, usedNumbers, usedTape, usedOutput, usedTaints, taintedRegisters, taintedCells, taintedBelow}
+use Rattle.rules.specs.Entry.{TaintedSnapshot, usedNumbers, taintedRegisters, taintedCells, taintedBelow}
 use Rattle.rules.specs.Calls.{taintedWords}
 use Rattle.rules.specs.NonInterference.{TaintedBelow, EqualUnless, LowEquivalent}
 use Rattle.rules.specs.Witnesses.{Witness, secret, carries, leaks, Carried, beyond, stores, Beyond, Witnesses}

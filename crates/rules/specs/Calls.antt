@@ -1,7 +1,6 @@
 -- Whole calls: what each public call gives, refusals at entry included. 1, 2 and 3 are looked for in this order.
-use Prim.Native.Nat.{ℕ, zero}
-use mathlib.Core.Bool.{Bool, true, false}
-use mathlib.Core.List.{List, []}
+use Prim.Native.Nat.{ℕ}
+use mathlib.Core.List.{List}
 use Rattle.rules.specs.declared.Instruction.{Instruction}
 use Rattle.rules.specs.declared.Refusal.{Refusal}
 use Rattle.rules.specs.declared.Refusal.the-variants.{BadState}

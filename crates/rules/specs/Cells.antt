@@ -1,6 +1,5 @@
 -- Memory as the buffers hold it: a list of addresses, strictly rising, each with its content.
 use Prim.Native.Nat.{ℕ, zero, suc, _≤_}
-use mathlib.Core.Bool.{Bool, true, false}
 use mathlib.Core.List.{List, [], _∷_}
 use lib.Dec.{ltb, eqb}
 use Rattle.rules.specs.Numbers.{choose}

@@ -1,9 +1,9 @@
 -- Digits 0-9a-f, as characters: how a word is read, and how numbers are written.
 use Prim.Native.Nat.{ℕ, zero, suc, _+_, _*_, _-_, _/_, _%_}
-use mathlib.Core.Bool.{Bool, true, false, _&&_}
+use mathlib.Core.Bool.{_&&_}
 use mathlib.Core.List.{List, [], _∷_, _++_}
 use lib.Dec.{ltb, leb, eqb}
-use lib.ListN.{length, take}
+use lib.ListN.{length}
 use Rattle.rules.specs.declared.HexWord.{HexWord}
 use Rattle.rules.specs.declared.HexWord.the-variants.{Word, NotHex}
 use Rattle.rules.specs.Numbers.{choose}
@@ -38,7 +38,7 @@ lowDigits (suc n) v = lowDigits n (v / 16) ++ (digitChar (v % 16) ∷ [])
 abbrev pub digits16 : ℕ → List ℕ
 digits16 v = lowDigits 16 v
 
--- how many digits a word needs: at least one
+-- how many digits a number has, at least one and at most n + 1
 unfoldable pub digitCount : ℕ → ℕ → ℕ
 digitCount zero v = 1
 digitCount (suc n) v = choose (ltb v 16) 1 (suc (digitCount n (v / 16)))

@@ -8,14 +8,14 @@ use lib.ListN.{length, getD}
 use Rattle.rules.specs.declared.Instruction.{Instruction}
 use Rattle.rules.specs.declared.Refusal.the-variants.{BadState}
 use Rattle.rules.specs.Numbers.{p}
-use Rattle.rules.specs.Results.{Result, refuse, pass}
+use Rattle.rules.specs.Results.{Result, pass}
 use Rattle.rules.specs.Cells.{cells, get, zipped}
 use Rattle.rules.specs.Step.{State}
 use Rattle.rules.specs.Taint.{registerTaint, slotTaint}
-use Rattle.rules.specs.Answers.{Meaning, outcome, refusal}
+use Rattle.rules.specs.Answers.{outcome, refusal}
 use Rattle.rules.specs.Entry.{Snapshot, TaintedSnapshot, usedAddresses, usedNumbers, usedTape, usedOutput, usedTaints, taintedRegisters, taintedCells, taintEntry, taintedEntry, environment, stateOf}
 use Rattle.rules.specs.Calls.{Called, refused}
-use Rattle.rules.specs.TaintRules.{Place, register, cell, Tainting}
+use Rattle.rules.specs.TaintRules.{register, cell, Tainting}
 use Rattle.rules.specs.SinkRules.{ReachesUse, Comes}
 
 -- 'Marked': a register, or a used cell, whose mark is 1

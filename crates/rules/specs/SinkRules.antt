@@ -1,7 +1,7 @@
 -- Document 01's list of uses, item by item, and what it is for a step to reach one.
 use Prim.Native.Nat.{ℕ, suc, _+_, _-_, _≤_, _<_}
 use mathlib.Core.Path.{_≡_}
-use mathlib.Core.Bool.{Bool, true}
+use mathlib.Core.Bool.{true}
 use mathlib.Core.List.{List}
 use Rattle.rules.specs.declared.OlaOpcode.{OlaOpcode}
 use Rattle.rules.specs.declared.OlaOpcode.the-variants as O
@@ -11,7 +11,7 @@ use Rattle.rules.specs.Results.{pass}
 use Rattle.rules.specs.Cells.{cells}
 use Rattle.rules.specs.Opcodes.{classOf}
 use Rattle.rules.specs.Operands.{fetch, valueOf, Operands, operands}
-use Rattle.rules.specs.Step.{Environment, State, Next, goesOn, r9, readBelow, readSpan, step}
+use Rattle.rules.specs.Step.{Environment, State, goesOn, r9, readBelow, readSpan, step}
 use Rattle.rules.specs.TaintRules.{Place, register, cell, Tainting, OperandTainted, TaintedAfter}
 
 -- the opcodes that the list names together

@@ -1,12 +1,11 @@
 -- The taints after a step, sentence by sentence of document 01's 'Marks', and not by the machine's own computation.
 use Prim.Native.Nat.{ℕ, _+_, _-_, _≤_, _<_}
-use mathlib.Core.Path.{_≡_}
-use mathlib.Core.Bool.{Bool, true, false, _||_}
+use mathlib.Core.Bool.{Bool, false, _||_}
 use lib.ListN.{length}
 use Rattle.rules.specs.declared.OlaOpcode.{OlaOpcode}
 use Rattle.rules.specs.declared.OlaOpcode.the-variants as O
 use Rattle.rules.specs.declared.OlaOperand.{OlaOperand}
-use Rattle.rules.specs.declared.OlaOperand.the-variants.{Absent, Immediate, Register, RegisterWithOffset, RegisterWithFactor, Psp, Pc}
+use Rattle.rules.specs.declared.OlaOperand.the-variants.{Immediate, Register, RegisterWithOffset, RegisterWithFactor, Psp}
 use Rattle.rules.specs.declared.Instruction.{Instruction}
 use Rattle.rules.specs.Field.{fieldAdd}
 use Rattle.rules.specs.Cells.{cells}

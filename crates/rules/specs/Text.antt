@@ -1,13 +1,13 @@
 -- Programs as text: a frame a line. Document 01, 'Frames', and `solve`'s budget line.
 use Prim.Native.Nat.{ℕ, zero, suc, _/_, _%_}
-use mathlib.Core.Bool.{Bool, true, false, not, _&&_, _||_}
+use mathlib.Core.Bool.{Bool, true, false, not}
 use mathlib.Core.List.{List, [], _∷_, _++_, map}
 use mathlib.Core.Option.{Option, none, some}
-use lib.Dec.{ltb, leb, eqb}
+use lib.Dec.{leb, eqb}
 use lib.ListN.{length, take, drop}
 use Rattle.rules.specs.declared.Instruction.{Instruction}
 use Rattle.rules.specs.declared.Frame.{Frame}
-use Rattle.rules.specs.declared.Frame.the-variants.{Holds, Malformed}
+use Rattle.rules.specs.declared.Frame.the-variants.{Malformed}
 use Rattle.rules.specs.declared.HexWord.{HexWord}
 use Rattle.rules.specs.declared.HexWord.the-variants.{Word, NotHex}
 use Rattle.rules.specs.declared.Refusal.the-variants.{BadLength, MalformedFrame}

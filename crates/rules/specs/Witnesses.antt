@@ -2,13 +2,13 @@
 use Prim.Native.Nat.{ℕ}
 use mathlib.Core.Path.{_≡_}
 use mathlib.Core.List.{List, [], _∷_, _++_}
-use lib.ListN.{length, getD, replicate}
+use lib.ListN.{replicate}
 use Rattle.rules.specs.declared.OlaOpcode.the-variants as O
 use Rattle.rules.specs.declared.OlaOperand.the-variants.{Absent, Immediate, Register}
 use Rattle.rules.specs.Numbers.{defaultPsp}
 use Rattle.rules.specs.Answers.{Meaning, outcome, refusal}
 use Rattle.rules.specs.Entry.{TaintedSnapshot}
-use Rattle.rules.specs.Calls.{Called, taintedWords}
+use Rattle.rules.specs.Calls.{taintedWords}
 use Rattle.rules.specs.Encoding.{frame}
 use Rattle.rules.specs.Rows.{start, withR, withTaintedR, withCell, taintedSnapshot, taintedRegisterAt, taintedCellAt}
 use Rattle.rules.specs.NonInterference.{TaintedBelow, LowEquivalent, SameCalls}
