@@ -1,4 +1,4 @@
--- What the functions' proofs have in common, and for the crates above what follows from a fetch and which registers are named.
+-- What the functions' proofs have in common, and for the crates above what follows from a fetch.
 pub mod Cases
 pub mod Selectors
 pub mod OperandKinds
@@ -9,4 +9,3 @@ pub mod Starts
 pub mod Loading
 pub mod Laying
 pub mod Fetching
-pub mod Registers

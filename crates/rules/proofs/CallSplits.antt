@@ -16,7 +16,7 @@ use Rattle.rules.specs.Step.{Environment, State, Ran, overlay, run}
 use Rattle.rules.specs.Taint.{TaintedState, taintedRun}
 use Rattle.rules.specs.Answers.{outcome, meaning}
 use Rattle.rules.specs.Entry.{Snapshot, TaintedSnapshot, wordOfBits, plainEntry, taintedEntry, environment, stateOf, taintedStateOf, snapshotAfter, taintedSnapshotAfter}
-use Rattle.rules.specs.Calls.{plainRun, plainAnswered, guardedRun, taintedAnswered, refused, plainCall, taintedCall}
+use Rattle.rules.specs.Calls.{plainRunOf, plainAnswered, taintedRunOf, taintedAnswered, refused, plainCall, taintedCall}
 use Rattle.rules.specs.Relations.{BothRan}
 use Rattle.rules.specs.Soundness.{Sound, TaintedSound}
 use Rattle.rules.specs.Resumption.{resumed, taintedResumed, Resumable, TaintedResumable}
@@ -62,16 +62,16 @@ resumed-behind t h = behind (t .output) (sym (overlay-same (t .output) (t .writt
 -- The plain call
 
 plain-passes : (program : List Instruction) (s : Snapshot) (n : ℕ) → plainEntry s ≡ true
-    → plainCall (pass program) n s ≡ plainAnswered s (plainRun program n s)
+    → plainCall (pass program) n s ≡ plainAnswered s (plainRunOf program n s)
 unfolding plainCall
-plain-passes program s n h = ap (λ b. choose b (plainAnswered s (plainRun program n s)) (refused BadState s)) h
+plain-passes program s n h = ap (λ b. choose b (plainAnswered s (plainRunOf program n s)) (refused BadState s)) h
 
-module _ (program : List Instruction) (s : Snapshot) (ten : length (s .machine .registers) ≡ 10) (passes : plainEntry s ≡ true) (m n : ℕ) (paused : plainRun program m s .answer ≡ Paused) where
+module _ (program : List Instruction) (s : Snapshot) (ten : length (s .machine .registers) ≡ 10) (passes : plainEntry s ≡ true) (m n : ℕ) (paused : plainRunOf program m s .answer ≡ Paused) where
   abbrev here : Environment
   here = environment program s
 
   abbrev first : Ran (State (cells ℕ))
-  first = plainRun program m s
+  first = plainRunOf program m s
 
   sound : Sound here (first .state)
   sound = run-sound here m (stateOf s) (entry-sound program s ten passes)
@@ -86,7 +86,7 @@ module _ (program : List Instruction) (s : Snapshot) (ten : length (s .machine .
   enters : plainEntry (snapshotAfter s (first .state)) ≡ true
   enters = again .entry (run-goes-on (cells ℕ) here m (stateOf s) clock paused)
 
-  second : plainRun program n (snapshotAfter s (first .state)) ≡ run (cells ℕ) here n (resumed (first .state))
+  second : plainRunOf program n (snapshotAfter s (first .state)) ≡ run (cells ℕ) here n (resumed (first .state))
   second = λ i. run (cells ℕ) (again .environment i) n (again .state i)
 
   joined-answers : (r q : Ran (State (cells ℕ))) → Grown (first .state) (r .state) → BothRan (Behind (first .state .written)) r q
@@ -94,7 +94,7 @@ module _ (program : List Instruction) (s : Snapshot) (ten : length (s .machine .
   joined-answers r q g b =
       λ i. record { answer = meaning (b .answer i); steps = first .steps + b .steps i; left = left-twice s g (b .state) i }
 
-  plain-split : plainAnswered s (plainRun program (m + n) s) ≡ afterSteps (first .steps) (plainCall (pass program) n (snapshotAfter s (first .state)))
+  plain-split : plainAnswered s (plainRunOf program (m + n) s) ≡ afterSteps (first .steps) (plainCall (pass program) n (snapshotAfter s (first .state)))
   plain-split =
       ap (plainAnswered s) (run-splits (cells ℕ) here m n (stateOf s) paused)
       ∙ joined-answers (run (cells ℕ) here n (first .state)) (run (cells ℕ) here n (resumed (first .state))) (run-grows here n (first .state) sound)
@@ -115,20 +115,20 @@ tainted-twice g q h l (tainted-behind {u = u} b) =
     }
 
 tainted-passes : (program : List Instruction) (g : TaintedSnapshot) (n : ℕ) → taintedEntry g ≡ true
-    → taintedCall (pass program) n g ≡ taintedAnswered g (guardedRun program n g)
+    → taintedCall (pass program) n g ≡ taintedAnswered g (taintedRunOf program n g)
 unfolding taintedCall
-tainted-passes program g n h = ap (λ b. choose b (taintedAnswered g (guardedRun program n g)) (refused BadState g)) h
+tainted-passes program g n h = ap (λ b. choose b (taintedAnswered g (taintedRunOf program n g)) (refused BadState g)) h
 
 -- as many taints as cells
 taint-count : {e : Environment} {q : TaintedState (cells ℕ)} → TaintedSound e q → count (q .taints .cells) ≡ count (q .plain .cells)
 taint-count {q = q} h = sym (length-addresses (q .taints .cells)) ∙ ap length (h .addresses) ∙ length-addresses (q .plain .cells)
 
-module _ (program : List Instruction) (g : TaintedSnapshot) (ten : length (g .plain .machine .registers) ≡ 10) (passes : taintedEntry g ≡ true) (m n : ℕ) (paused : guardedRun program m g .answer ≡ Paused) where
+module _ (program : List Instruction) (g : TaintedSnapshot) (ten : length (g .plain .machine .registers) ≡ 10) (passes : taintedEntry g ≡ true) (m n : ℕ) (paused : taintedRunOf program m g .answer ≡ Paused) where
   abbrev there : Environment
   there = environment program (g .plain)
 
   abbrev tainted-first : Ran (TaintedState (cells ℕ))
-  tainted-first = guardedRun program m g
+  tainted-first = taintedRunOf program m g
 
   tainted-sound : TaintedSound there (tainted-first .state)
   tainted-sound = tainted-run-sound there m (taintedStateOf g) (tainted-entry-sound program g ten passes)
@@ -143,7 +143,7 @@ module _ (program : List Instruction) (g : TaintedSnapshot) (ten : length (g .pl
   tainted-enters : taintedEntry (taintedSnapshotAfter g (tainted-first .state)) ≡ true
   tainted-enters = tainted-again .entry (tainted-run-goes-on (cells ℕ) there m (taintedStateOf g) tainted-clock paused)
 
-  tainted-second : guardedRun program n (taintedSnapshotAfter g (tainted-first .state)) ≡ taintedRun (cells ℕ) there n (taintedResumed (tainted-first .state))
+  tainted-second : taintedRunOf program n (taintedSnapshotAfter g (tainted-first .state)) ≡ taintedRun (cells ℕ) there n (taintedResumed (tainted-first .state))
   tainted-second = λ i. taintedRun (cells ℕ) (tainted-again .plain .environment i) n (tainted-again .state i)
 
   tainted-joined : (r q : Ran (TaintedState (cells ℕ))) → Grown (tainted-first .state .plain) (r .state .plain)
@@ -161,7 +161,7 @@ module _ (program : List Instruction) (g : TaintedSnapshot) (ten : length (g .pl
       let a = tainted-grown .cells in
       omega (arith, taint-count tainted-sound, taint-count (tainted-run-sound there n (tainted-first .state) tainted-sound))
 
-  tainted-split : taintedAnswered g (guardedRun program (m + n) g)
+  tainted-split : taintedAnswered g (taintedRunOf program (m + n) g)
       ≡ afterSteps (tainted-first .steps) (taintedCall (pass program) n (taintedSnapshotAfter g (tainted-first .state)))
   tainted-split =
       ap (taintedAnswered g) (tainted-run-splits (cells ℕ) there m n (taintedStateOf g) paused)
@@ -183,19 +183,19 @@ split-calls (pass program) =
     record { plain = λ m n s ten. plain-go m n s ten (plainEntry s) refl; tainted = λ m n g ten. tainted-go m n g ten (taintedEntry g) refl }
   where
     plain-go : (m n : ℕ) (s : Snapshot) → length (s .machine .registers) ≡ 10 → (b : Bool) → plainEntry s ≡ b
-        → choose b (plainAnswered s (plainRun program m s)) (refused BadState s) .answer ≡ outcome 3 []
-        → choose b (plainAnswered s (plainRun program (m + n) s)) (refused BadState s)
+        → choose b (plainAnswered s (plainRunOf program m s)) (refused BadState s) .answer ≡ outcome 3 []
+        → choose b (plainAnswered s (plainRunOf program (m + n) s)) (refused BadState s)
         ≡ afterSteps
-        (choose b (plainAnswered s (plainRun program m s)) (refused BadState s) .steps)
-        (plainCall (pass program) n (choose b (plainAnswered s (plainRun program m s)) (refused BadState s) .left))
-    plain-go m n s ten true k h = plain-split program s ten k m n (paused-answer (plainRun program m s .answer) h)
+        (choose b (plainAnswered s (plainRunOf program m s)) (refused BadState s) .steps)
+        (plainCall (pass program) n (choose b (plainAnswered s (plainRunOf program m s)) (refused BadState s) .left))
+    plain-go m n s ten true k h = plain-split program s ten k m n (paused-answer (plainRunOf program m s .answer) h)
     plain-go m n s ten false k h = absurd (refusal-not-paused BadState h)
 
     tainted-go : (m n : ℕ) (g : TaintedSnapshot) → length (g .plain .machine .registers) ≡ 10 → (b : Bool) → taintedEntry g ≡ b
-        → choose b (taintedAnswered g (guardedRun program m g)) (refused BadState g) .answer ≡ outcome 3 []
-        → choose b (taintedAnswered g (guardedRun program (m + n) g)) (refused BadState g)
+        → choose b (taintedAnswered g (taintedRunOf program m g)) (refused BadState g) .answer ≡ outcome 3 []
+        → choose b (taintedAnswered g (taintedRunOf program (m + n) g)) (refused BadState g)
         ≡ afterSteps
-        (choose b (taintedAnswered g (guardedRun program m g)) (refused BadState g) .steps)
-        (taintedCall (pass program) n (choose b (taintedAnswered g (guardedRun program m g)) (refused BadState g) .left))
-    tainted-go m n g ten true k h = tainted-split program g ten k m n (paused-answer (guardedRun program m g .answer) h)
+        (choose b (taintedAnswered g (taintedRunOf program m g)) (refused BadState g) .steps)
+        (taintedCall (pass program) n (choose b (taintedAnswered g (taintedRunOf program m g)) (refused BadState g) .left))
+    tainted-go m n g ten true k h = tainted-split program g ten k m n (paused-answer (taintedRunOf program m g .answer) h)
     tainted-go m n g ten false k h = absurd (refusal-not-paused BadState h)

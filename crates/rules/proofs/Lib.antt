@@ -9,13 +9,12 @@ pub mod CellLaws
 pub mod OverlayLaws
 pub mod EntryLaws
 pub mod DecodedRegisters
+pub mod MalformedReported
 pub mod Relational
 pub mod Passing
 -- the tables of cases
 pub mod Unfolding
-pub mod CasesHold
-pub mod RefusalsHold
-pub mod RefusalOrderHolds
+pub mod AllCases
 -- taints and sinks are document 01's
 pub mod WrittenPlaces
 pub mod TaintsFollow

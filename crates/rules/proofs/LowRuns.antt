@@ -7,13 +7,13 @@ use Rattle.rules.specs.declared.OlaOpcode.the-variants as O
 use Rattle.rules.specs.declared.Instruction.{Instruction}
 use Rattle.rules.specs.declared.Refusal.the-variants.{NoCapacity}
 use Rattle.rules.specs.Numbers.{p}
-use Rattle.rules.specs.Results.{Guarded, passes, after, guard}
+use Rattle.rules.specs.Results.{TaintedResult, passes, after, guard}
 use Rattle.rules.specs.Cells.{count, cells}
 use Rattle.rules.specs.Opcodes.{Class, field, equality, small, complement, move, assert, rangeCheck, jump, conditionalJump, call, return, load, store, tapeLoad, tapeStore, contractCall, end, uncovered, classOf}
 use Rattle.rules.specs.Operands.{fetch, wantsOf, Operands, operands}
 use Rattle.rules.specs.Step.{Environment, State, Next, fits, capacity, Ran}
 use Rattle.rules.specs.Taint.{operandTaint, sinksOf, operandSink, Taints, readSink, taintsAfter, TaintedState, TaintedNext, taintedRest, taintedStep, onTaintedStep, taintedRun}
-use Rattle.rules.specs.Relations.{passed, BothGuarded, refused-alike, sink-alike, passed-alike, BothRan}
+use Rattle.rules.specs.Relations.{passed, BothTainted, refused-alike, sink-alike, passed-alike, BothRan}
 use Rattle.rules.proofs.Relational.{both-equal, both-require, both-after, both-finish}
 use Rattle.rules.proofs.BoolLaws.{or-left, or-right}
 use Rattle.rules.proofs.LowStates.{StatesRelated, NextRelated, mod-below, untainted, cells-count}
@@ -169,7 +169,7 @@ fits-alike e {a = a} {b} n =
 
 -- past the sinks of what was read
 last-stage : (e : Environment) (c : Bool) (t : Taints (cells ℕ)) {a b : Next (cells ℕ)} → (c ≡ false → NextRelated t a b)
-    → BothGuarded TaintedNextRelated
+    → BothTainted TaintedNextRelated
     (guard c (after (capacity (cells ℕ) e a) λ n. passes (record { next = n; taints = t })))
     (guard c (after (capacity (cells ℕ) e b) λ n. passes (record { next = n; taints = t })))
 unfolding guard
@@ -179,28 +179,28 @@ last-stage e false t h =
     passed-alike (record { taints = refl; next = r })
 
 module _ (e : Environment) (t : Taints (cells ℕ)) {s u : State (cells ℕ)} (n : StatesRelated t s u) (i : Instruction) (c : Class) (l : Bounded c) {o q : Operands} (r : OperandsRelated t c i o q) where
-  rest-stage : Agreed e t c i s u o q → BothGuarded TaintedNextRelated (taintedRest (cells ℕ) e t c i s o) (taintedRest (cells ℕ) e t c i u q)
+  rest-stage : Agreed e t c i s u o q → BothTainted TaintedNextRelated (taintedRest (cells ℕ) e t c i s o) (taintedRest (cells ℕ) e t c i u q)
   unfolding taintedRest
   rest-stage d =
       both-after _ _ (d .next) λ a b h.
       rw (← (d .sinks), ← (d .taints)) (last-stage e (readSink (cells ℕ) t c i s o) (taintsAfter (cells ℕ) t c i s o) h)
 
   sink-stage : (b : Bool) → operandSink (t .registers) c i ≡ b
-      → BothGuarded TaintedNextRelated (guard b (taintedRest (cells ℕ) e t c i s o)) (guard b (taintedRest (cells ℕ) e t c i u q))
+      → BothTainted TaintedNextRelated (guard b (taintedRest (cells ℕ) e t c i s o)) (guard b (taintedRest (cells ℕ) e t c i u q))
   unfolding guard
   sink-stage true k = sink-alike
   sink-stage false k = rest-stage (agreed e t i n c l r k)
 
 step-agrees : (e : Environment) (t : Taints (cells ℕ)) {s u : State (cells ℕ)} → StatesRelated t s u
-    → BothGuarded TaintedNextRelated (taintedStep (cells ℕ) e (record { plain = s; taints = t })) (taintedStep (cells ℕ) e (record { plain = u; taints = t }))
+    → BothTainted TaintedNextRelated (taintedStep (cells ℕ) e (record { plain = s; taints = t })) (taintedStep (cells ℕ) e (record { plain = u; taints = t }))
 unfolding taintedStep
 step-agrees e t {s} {u} n =
     both-after _ _ (both-equal (ap (fetch (e .program)) (n .pc))) λ i j k.
-    subst (λ j. BothGuarded TaintedNextRelated (now s i) (now u j)) k
+    subst (λ j. BothTainted TaintedNextRelated (now s i) (now u j)) k
     (both-after _ _ (operands-read (e .psp) t (classOf (i .opcode)) i n) λ o q r.
     sink-stage e t n i (classOf (i .opcode)) (bounded (i .opcode)) r (operandSink (t .registers) (classOf (i .opcode)) i) refl)
   where
-    now : State (cells ℕ) → Instruction → Guarded (TaintedNext (cells ℕ))
+    now : State (cells ℕ) → Instruction → TaintedResult (TaintedNext (cells ℕ))
     now s i =
         after (operands (e .psp) (s .registers) (classOf (i .opcode)) i) λ o.
         guard (operandSink (t .registers) (classOf (i .opcode)) i) (taintedRest (cells ℕ) e t (classOf (i .opcode)) i s o)
@@ -212,7 +212,7 @@ at s t = record { plain = s; taints = t }
 
 go-on : (n : ℕ) (q r : TaintedState (cells ℕ)) (k : TaintedState (cells ℕ) → Ran (TaintedState (cells ℕ))) → TaintedRelated q r
     → ((q r : TaintedState (cells ℕ)) → TaintedRelated q r → BothRan TaintedRelated (k q) (k r))
-    → {x y : Guarded (TaintedNext (cells ℕ))} → BothGuarded TaintedNextRelated x y
+    → {x y : TaintedResult (TaintedNext (cells ℕ))} → BothTainted TaintedNextRelated x y
     → BothRan TaintedRelated (onTaintedStep (cells ℕ) q x k) (onTaintedStep (cells ℕ) r y k)
 go-on n q r k h l refused-alike = record { answer = refl; steps = refl; state = h }
 go-on n q r k h l sink-alike = record { answer = refl; steps = refl; state = h }
@@ -226,5 +226,5 @@ unfolding taintedRun
 run-agrees e zero q r h = record { answer = refl; steps = refl; state = h }
 run-agrees e (suc n) q r h =
     go-on n q r (taintedRun (cells ℕ) e n) h (run-agrees e n)
-    (subst (λ t. BothGuarded TaintedNextRelated (taintedStep (cells ℕ) e q) (taintedStep (cells ℕ) e (at (r .plain) t))) (h .taints)
+    (subst (λ t. BothTainted TaintedNextRelated (taintedStep (cells ℕ) e q) (taintedStep (cells ℕ) e (at (r .plain) t))) (h .taints)
     (step-agrees e (q .taints) (h .plain)))

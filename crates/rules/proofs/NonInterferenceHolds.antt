@@ -16,7 +16,7 @@ use Rattle.rules.specs.Step.{Ran}
 use Rattle.rules.specs.Taint.{TaintedState, taintedRun}
 use Rattle.rules.specs.Answers.{Meaning, meaning}
 use Rattle.rules.specs.Entry.{TaintedSnapshot, lowBits, all, plainEntry, taintEntry, taintedEntry, environment, stateOf, taintedStateOf, snapshotAfter, taintedSnapshotAfter}
-use Rattle.rules.specs.Calls.{Called, refused, plainRun, guardedRun, plainAnswered, taintedAnswered, plainCall, taintedCall, jobBudget, jobProgram, plainWords, plainText, taintedWords, taintedText, taintedBudgetText}
+use Rattle.rules.specs.Calls.{Called, refused, plainRunOf, taintedRunOf, plainAnswered, taintedAnswered, plainCall, taintedCall, jobBudget, jobProgram, plainWords, plainText, taintedWords, taintedText, taintedBudgetText}
 use Rattle.rules.specs.Relations.{BothRan}
 use Rattle.rules.specs.TaintRules.{Place, register, cell, Tainting}
 use Rattle.rules.specs.SinkRules.{Comes}
@@ -59,16 +59,16 @@ answers-same g h al r u w =
     }
 
 module _ (program : List Instruction) (budget : ℕ) (g h : TaintedSnapshot) (al : LowEquivalent g h) (b : TaintedBelow g) (c : TaintedBelow h) where
-  runs-same : taintedEntry g ≡ true → BothRan TaintedRelated (guardedRun program budget g) (guardedRun program budget h)
+  runs-same : taintedEntry g ≡ true → BothRan TaintedRelated (taintedRunOf program budget g) (taintedRunOf program budget h)
   runs-same t =
-      subst (λ e. BothRan TaintedRelated (guardedRun program budget g) (taintedRun (cells ℕ) e budget (taintedStateOf h))) (same-environment program g h al)
+      subst (λ e. BothRan TaintedRelated (taintedRunOf program budget g) (taintedRun (cells ℕ) e budget (taintedStateOf h))) (same-environment program g h al)
       (run-agrees (environment program (g .plain)) budget (taintedStateOf g) (taintedStateOf h)
       (record { taints = same-taints g h al; plain = states-related g h (close al b c) t }))
 
   by-entry : (x : Bool) → taintedEntry g ≡ x
       → SameCalls
-      (choose x (taintedAnswered g (guardedRun program budget g)) (refused BadState g))
-      (choose x (taintedAnswered h (guardedRun program budget h)) (refused BadState h))
+      (choose x (taintedAnswered g (taintedRunOf program budget g)) (refused BadState g))
+      (choose x (taintedAnswered h (taintedRunOf program budget h)) (refused BadState h))
   by-entry true t = answers-same g h al _ _ (runs-same t)
   by-entry false t = record { answer = refl; steps = refl; left = al }
 
@@ -77,7 +77,7 @@ calls-same : (program : Result (List Instruction)) (budget : ℕ) (g h : Tainted
 unfolding taintedCall
 calls-same (refuse f) budget g h al b c = record { answer = refl; steps = refl; left = al }
 calls-same (pass program) budget g h al b c =
-    subst (λ x. SameCalls (taintedCall (pass program) budget g) (choose x (taintedAnswered h (guardedRun program budget h)) (refused BadState h)))
+    subst (λ x. SameCalls (taintedCall (pass program) budget g) (choose x (taintedAnswered h (taintedRunOf program budget h)) (refused BadState h)))
     (taintedEntry-same g h (close al b c) b c)
     (by-entry program budget g h al b c (taintedEntry g) refl)
 
@@ -104,23 +104,23 @@ entry-unfit g t = rw t (go (plainEntry (g .plain)))
     go false = refl
 
 module _ (program : List Instruction) (budget : ℕ) (g : TaintedSnapshot) where
-  call-run : taintedEntry g ≡ true → taintedCall (pass program) budget g ≡ taintedAnswered g (guardedRun program budget g)
+  call-run : taintedEntry g ≡ true → taintedCall (pass program) budget g ≡ taintedAnswered g (taintedRunOf program budget g)
   unfolding taintedCall
-  call-run t = ap (λ b. choose b (taintedAnswered g (guardedRun program budget g)) (refused BadState g)) t
+  call-run t = ap (λ b. choose b (taintedAnswered g (taintedRunOf program budget g)) (refused BadState g)) t
 
-  plain-run : (k : ℕ) → taintedEntry g ≡ true → plainCall (pass program) k (g .plain) ≡ plainAnswered (g .plain) (plainRun program k (g .plain))
+  plain-run : (k : ℕ) → taintedEntry g ≡ true → plainCall (pass program) k (g .plain) ≡ plainAnswered (g .plain) (plainRunOf program k (g .plain))
   unfolding plainCall
-  plain-run k t = ap (λ b. choose b (plainAnswered (g .plain) (plainRun program k (g .plain))) (refused BadState (g .plain))) (entry-plain g t)
+  plain-run k t = ap (λ b. choose b (plainAnswered (g .plain) (plainRunOf program k (g .plain))) (refused BadState (g .plain))) (entry-plain g t)
 
   sink-enters : MeetsSink (taintedCall (pass program) budget g) → taintedEntry g ≡ true
   unfolding taintedCall
   sink-enters a = go (taintedEntry g) a
     where
-      go : (b : Bool) → MeetsSink (choose b (taintedAnswered g (guardedRun program budget g)) (refused BadState g)) → b ≡ true
+      go : (b : Bool) → MeetsSink (choose b (taintedAnswered g (taintedRunOf program budget g)) (refused BadState g)) → b ≡ true
       go true h = refl
       go false h = absurd (refusal-not-sink BadState h)
 
-  run-sinks : MeetsSink (taintedCall (pass program) budget g) → guardedRun program budget g .answer ≡ TaintedSink
+  run-sinks : MeetsSink (taintedCall (pass program) budget g) → taintedRunOf program budget g .answer ≡ TaintedSink
   run-sinks a = sink-answer _ (sym (ap (λ (c : Called TaintedSnapshot). c .answer) (call-run (sink-enters a))) ∙ a)
 
 refused-no-sink : (f : Refusal) (budget : ℕ) (g : TaintedSnapshot) → MeetsSink (taintedCall (refuse f) budget g) → ⊥
@@ -136,8 +136,8 @@ transparent (refuse f) budget g t h = refl
 transparent (pass program) budget g t h = go (taintedEntry g) refl
   where
     go : (b : Bool) → taintedEntry g ≡ b
-        → untainted (choose (taintedEntry g) (taintedAnswered g (guardedRun program budget g)) (refused BadState g))
-        ≡ choose (plainEntry (g .plain)) (plainAnswered (g .plain) (plainRun program budget (g .plain))) (refused BadState (g .plain))
+        → untainted (choose (taintedEntry g) (taintedAnswered g (taintedRunOf program budget g)) (refused BadState g))
+        ≡ choose (plainEntry (g .plain)) (plainAnswered (g .plain) (plainRunOf program budget (g .plain))) (refused BadState (g .plain))
     go true e =
         ap untainted (call-run program budget g e)
         ∙ (ap (plainAnswered (g .plain))
@@ -145,15 +145,15 @@ transparent (pass program) budget g t h = go (taintedEntry g) refl
         (λ a. h (ap (λ (c : Called TaintedSnapshot). c .answer) (call-run program budget g e) ∙ (ap meaning a ∙ sink-meaning))))
         ∙ sym (plain-run program budget g budget e))
     go false e =
-        ap (λ b. untainted (choose b (taintedAnswered g (guardedRun program budget g)) (refused BadState g))) e
-        ∙ ap (λ b. choose b (plainAnswered (g .plain) (plainRun program budget (g .plain))) (refused BadState (g .plain))) (sym e ∙ entry-split g t)
+        ap (λ b. untainted (choose b (taintedAnswered g (taintedRunOf program budget g)) (refused BadState g))) e
+        ∙ ap (λ b. choose b (plainAnswered (g .plain) (plainRunOf program budget (g .plain))) (refused BadState (g .plain))) (sym e ∙ entry-split g t)
 
 unfit : (program : Result (List Instruction)) (budget : ℕ) (g : TaintedSnapshot) → taintEntry g ≡ false → {instructions : List Instruction}
     → program ≡ pass instructions → taintedCall program budget g ≡ refused BadState g
 unfolding taintedCall
 unfit program budget g t {instructions} h =
     ap (λ x. taintedCall x budget g) h
-    ∙ ap (λ b. choose b (taintedAnswered g (guardedRun instructions budget g)) (refused BadState g)) (entry-unfit g t)
+    ∙ ap (λ b. choose b (taintedAnswered g (taintedRunOf instructions budget g)) (refused BadState g)) (entry-unfit g t)
 
 stops-early : (program : Result (List Instruction)) (budget : ℕ) (g : TaintedSnapshot) (k : ℕ) → SinkAfter k (taintedCall program budget g)
     → (k < budget) × (plainCall program k (g .plain) ≡ pausedAfter k (taintedCall program budget g .left .plain))
@@ -165,9 +165,9 @@ stops-early (pass program) budget g k a =
     (subst (λ (c : Called TaintedSnapshot). (c .steps < budget) × (plainCall (pass program) (c .steps) (g .plain) ≡ pausedAfter (c .steps) (c .left .plain)))
     (sym (call-run program budget g t)) (
       h .0,
-      plain-run program budget g (guardedRun program budget g .steps) t
+      plain-run program budget g (taintedRunOf program budget g .steps) t
           ∙ (ap (plainAnswered (g .plain)) (h .1)
-          ∙ ap (λ (m : Meaning). record { answer = m; steps = guardedRun program budget g .steps; left = snapshotAfter (g .plain) (guardedRun program budget g .state .plain) })
+          ∙ ap (λ (m : Meaning). record { answer = m; steps = taintedRunOf program budget g .steps; left = snapshotAfter (g .plain) (taintedRunOf program budget g .state .plain) })
           paused-meaning),
     ))
 
@@ -187,11 +187,11 @@ sink-reaches (pass program) l budget g k h =
     let t = sink-enters program budget g (h .0) in
     let e = environment program (g .plain) in
     let w = sinks-came e l budget (taintedStateOf g) refl (run-sinks program budget g (h .0)) in
-    let s : guardedRun program budget g .steps ≡ k = sym (ap (λ (c : Called TaintedSnapshot). c .steps) (call-run program budget g t)) ∙ h .1 in
+    let s : taintedRunOf program budget g .steps ≡ k = sym (ap (λ (c : Called TaintedSnapshot). c .steps) (call-run program budget g t)) ∙ h .1 in
     subst (λ k. (k < budget) × Reaches (pass program) g k) s (
       w .below,
       reaches t
-          (subst (λ (x : Tainting). Comes e (stateOf (g .plain)) x (guardedRun program budget g .steps) (guardedRun program budget g .state .plain) (taintingOf (guardedRun program budget g .state .taints)))
+          (subst (λ (x : Tainting). Comes e (stateOf (g .plain)) x (taintedRunOf program budget g .steps) (taintedRunOf program budget g .state .plain) (taintingOf (taintedRunOf program budget g .state .taints)))
           (sym (start-same g))
           (w .comes))
           (w .reaches),

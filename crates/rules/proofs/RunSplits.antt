@@ -10,7 +10,7 @@ use Rattle.rules.specs.declared.Refusal.{Refusal}
 use Rattle.rules.specs.declared.Refusal.the-variants.{ClockEnd}
 use Rattle.rules.specs.declared.Answer.the-variants.{Ended, Calling, DelegateCalling, Paused, Refused, TaintedSink}
 use Rattle.rules.specs.Numbers.{clockEnd}
-use Rattle.rules.specs.Results.{Result, refuse, pass, Guarded, refuses, sink, passes}
+use Rattle.rules.specs.Results.{Result, refuse, pass, TaintedResult, refuses, sink, passes}
 use Rattle.rules.specs.Memory.{Memory}
 use Rattle.rules.specs.Step.{Environment, State, Next, Finish, goesOn, ends, calls, delegates, Ran, afterStep, onClock, onFinish, step, onStep, run}
 use Rattle.rules.specs.Taint.{TaintedState, TaintedNext, taintedStep, onTaintedStep, taintedRun}
@@ -98,7 +98,7 @@ module _ (memory : Memory ℕ) (e : Environment) where
   run-goes-on zero s l a = l
   run-goes-on (suc m) s l a = step-goes-on s (step memory e s) (run memory e m) (run-goes-on m) a
 
-  tainted-step-splits : (q : TaintedState memory) (x : Guarded (TaintedNext memory)) (k whole rest : TaintedState memory → Ran (TaintedState memory))
+  tainted-step-splits : (q : TaintedState memory) (x : TaintedResult (TaintedNext memory)) (k whole rest : TaintedState memory → Ran (TaintedState memory))
       → ((q : TaintedState memory) → k q .answer ≡ Paused → whole q ≡ joined (k q) (rest (k q .state)))
       → onTaintedStep memory q x k .answer ≡ Paused
       → onTaintedStep memory q x whole ≡ joined (onTaintedStep memory q x k) (rest (onTaintedStep memory q x k .state))
@@ -117,7 +117,7 @@ module _ (memory : Memory ℕ) (e : Environment) where
       (tainted-run-splits m n)
       a
 
-  tainted-step-goes-on : (q : TaintedState memory) (x : Guarded (TaintedNext memory)) (k : TaintedState memory → Ran (TaintedState memory))
+  tainted-step-goes-on : (q : TaintedState memory) (x : TaintedResult (TaintedNext memory)) (k : TaintedState memory → Ran (TaintedState memory))
       → ((q : TaintedState memory) → q .plain .clk < clockEnd → k q .answer ≡ Paused → k q .state .plain .clk < clockEnd)
       → onTaintedStep memory q x k .answer ≡ Paused → onTaintedStep memory q x k .state .plain .clk < clockEnd
   tainted-step-goes-on q (refuses f) k h a = absurd (refused f a)

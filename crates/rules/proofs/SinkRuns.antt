@@ -9,7 +9,7 @@ use borrow.Author.Tests.{ltb-true, lt-ltb}
 use Rattle.rules.specs.declared.Instruction.{Instruction}
 use Rattle.rules.specs.declared.Answer.the-variants.{TaintedSink}
 use Rattle.rules.specs.Numbers.{clockEnd}
-use Rattle.rules.specs.Results.{Result, refuse, pass, Guarded, refuses, sink, passes}
+use Rattle.rules.specs.Results.{Result, refuse, pass, TaintedResult, refuses, sink, passes}
 use Rattle.rules.specs.Cells.{cells}
 use Rattle.rules.specs.Opcodes.{Class, field, equality, small, complement, move, assert, rangeCheck, jump, conditionalJump, call, return, load, store, tapeLoad, tapeStore, contractCall, end, uncovered, classOf}
 use Rattle.rules.specs.Operands.{Operands}
@@ -115,7 +115,7 @@ module _ (e : Environment) (inRange : AllInRange (e .program)) where
       → Accepted e s (taintingOf t) s′ t′ → StepsTo (at s t) s′ t′
   accepted-steps s t {s′} {t′} ten a = go (taintedStep (cells ℕ) e (at s t)) (step (cells ℕ) e s) refl refl (step-beside (cells ℕ) e (at s t))
     where
-      go : (x : Guarded (TaintedNext (cells ℕ))) (y : Result (Next (cells ℕ))) → taintedStep (cells ℕ) e (at s t) ≡ x → step (cells ℕ) e s ≡ y
+      go : (x : TaintedResult (TaintedNext (cells ℕ))) (y : Result (Next (cells ℕ))) → taintedStep (cells ℕ) e (at s t) ≡ x → step (cells ℕ) e s ≡ y
           → Beside (cells ℕ) x y → StepsTo (at s t) s′ t′
       go x y h k at-sink = absurd (a .unused (stop-uses e (at s t) h))
       go x y h k (refused {f}) =
@@ -158,10 +158,10 @@ module _ (e : Environment) (inRange : AllInRange (e .program)) where
             (taints-step (q .plain) (q .taints) ten (w .fetched) x);
       }
     where
-      sink-passes : _≡_ {A = Guarded (TaintedNext (cells ℕ))} sink (passes n) → ⊥
+      sink-passes : _≡_ {A = TaintedResult (TaintedNext (cells ℕ))} sink (passes n) → ⊥
       sink-passes z = let y : _≡_ {A = ℕ} 0 1 = cc in omega arith
 
-      go : (x : Guarded (TaintedNext (cells ℕ))) (y : Result (Next (cells ℕ))) → step (cells ℕ) e (q .plain) ≡ y → x ≡ passes n → Beside (cells ℕ) x y
+      go : (x : TaintedResult (TaintedNext (cells ℕ))) (y : Result (Next (cells ℕ))) → step (cells ℕ) e (q .plain) ≡ y → x ≡ passes n → Beside (cells ℕ) x y
           → step (cells ℕ) e (q .plain) ≡ pass (record { state = n .next .state; finish = goesOn })
       go x y k z at-sink = absurd (sink-passes z)
       go x y k z refused = absurd (let y : _≡_ {A = ℕ} 0 1 = cc in omega arith)
@@ -237,7 +237,7 @@ module _ (e : Environment) (inRange : AllInRange (e .program)) where
   sinks-came zero q ten a = absurd (let z : _≡_ {A = ℕ} 0 1 = cc in omega arith)
   sinks-came (suc n) q ten a = go (taintedStep (cells ℕ) e q) refl a (λ q. sinks-came n q)
     where
-      go : (x : Guarded (TaintedNext (cells ℕ))) → taintedStep (cells ℕ) e q ≡ x
+      go : (x : TaintedResult (TaintedNext (cells ℕ))) → taintedStep (cells ℕ) e q ≡ x
           → onTaintedStep (cells ℕ) q x (taintedRun (cells ℕ) e n) .answer ≡ TaintedSink
           → ((q : TaintedState (cells ℕ)) → length (q .taints .registers) ≡ 10 → taintedRun (cells ℕ) e n q .answer ≡ TaintedSink → Came n q (taintedRun (cells ℕ) e n q))
           → Came (suc n) q (onTaintedStep (cells ℕ) q x (taintedRun (cells ℕ) e n))

@@ -10,7 +10,7 @@ use Rattle.rules.specs.declared.OlaOpcode.the-variants as O
 use Rattle.rules.specs.declared.OlaOperand.{OlaOperand}
 use Rattle.rules.specs.declared.OlaOperand.the-variants.{Absent, Immediate, Register, RegisterWithOffset, RegisterWithFactor, Psp, Pc}
 use Rattle.rules.specs.declared.Instruction.{Instruction}
-use Rattle.rules.specs.Results.{pass, Guarded, sink, passes, after}
+use Rattle.rules.specs.Results.{pass, TaintedResult, sink, passes, after}
 use Rattle.rules.specs.Cells.{Cells, cells}
 use Rattle.rules.specs.Opcodes.{classOf}
 use Rattle.rules.specs.Operands.{Operands}
@@ -241,7 +241,7 @@ capacity-no-sink : (e : Environment) (n : Next (cells ℕ)) (t : Taints (cells �
     → after {B = TaintedNext (cells ℕ)} (capacity (cells ℕ) e n) (λ n. passes (record { next = n; taints = t })) ≡ sink → ⊥
 capacity-no-sink e n t h =
     let r = after-sink (capacity (cells ℕ) e n) _ h in
-    let q : _≡_ {A = Guarded (TaintedNext (cells ℕ))} (passes (record { next = r .0; taints = t })) sink = r .2 in
+    let q : _≡_ {A = TaintedResult (TaintedNext (cells ℕ))} (passes (record { next = r .0; taints = t })) sink = r .2 in
     let z : _≡_ {A = ℕ} 0 1 = cc in
     omega arith
 

@@ -8,7 +8,7 @@ use Rattle.rules.specs.declared.Refusal.{Refusal}
 use Rattle.rules.specs.declared.Refusal.the-variants.{NoCapacity, ClockEnd}
 use Rattle.rules.specs.declared.Answer.the-variants.{Paused, Refused, TaintedSink}
 use Rattle.rules.specs.Numbers.{clockEnd}
-use Rattle.rules.specs.Results.{Result, refuse, pass, require, bind, Guarded, refuses, sink, passes, after, guard}
+use Rattle.rules.specs.Results.{Result, refuse, pass, require, bind, TaintedResult, refuses, sink, passes, after, guard}
 use Rattle.rules.specs.Memory.{Memory}
 use Rattle.rules.specs.Opcodes.{classOf}
 use Rattle.rules.specs.Operands.{fetch, operands}
@@ -24,18 +24,18 @@ refused-not-sink f e = let z : _≡_ {A = ℕ} 0 1 = cc in omega arith
 
 module _ (memory : Memory ℕ) where
   -- One step: the tainted one stops at a sink, or does what the plain one does
-  pub data Beside : Guarded (TaintedNext memory) → Result (Next memory) → Type 0 where
+  pub data Beside : TaintedResult (TaintedNext memory) → Result (Next memory) → Type 0 where
     at-sink : {r : Result (Next memory)} → Beside sink r
     refused : {f : Refusal} → Beside (refuses f) (refuse f)
     passed : {n : TaintedNext memory} → Beside (passes n) (pass (n .next))
 
-  beside-after : {A : Type 0} (r : Result A) (k : A → Guarded (TaintedNext memory)) (l : A → Result (Next memory)) → ((a : A) → Beside (k a) (l a))
+  beside-after : {A : Type 0} (r : Result A) (k : A → TaintedResult (TaintedNext memory)) (l : A → Result (Next memory)) → ((a : A) → Beside (k a) (l a))
       → Beside (after r k) (bind r l)
   unfolding after bind
   beside-after (refuse f) k l h = refused
   beside-after (pass a) k l h = h a
 
-  beside-guard : (b : Bool) {x : Guarded (TaintedNext memory)} {y : Result (Next memory)} → Beside x y → Beside (guard b x) y
+  beside-guard : (b : Bool) {x : TaintedResult (TaintedNext memory)} {y : Result (Next memory)} → Beside x y → Beside (guard b x) y
   unfolding guard
   beside-guard true h = at-sink
   beside-guard false h = h
@@ -105,7 +105,7 @@ module _ (memory : Memory ℕ) where
   finish-case e s n q (calls vs) h = same-run (suc n) _ (λ a. let z : _≡_ {A = ℕ} 0 1 = cc in omega arith)
   finish-case e s n q (delegates vs) h = same-run (suc n) _ (λ a. let z : _≡_ {A = ℕ} 0 1 = cc in omega arith)
 
-  step-case : (e : Environment) (n : ℕ) (q : TaintedState memory) (x : Guarded (TaintedNext memory)) (y : Result (Next memory)) → Beside x y
+  step-case : (e : Environment) (n : ℕ) (q : TaintedState memory) (x : TaintedResult (TaintedNext memory)) (y : Result (Next memory)) → Beside x y
       → ((r : TaintedState memory) → RunBeside n (taintedRun memory e n r) (run memory e n (r .plain)) (λ k. run memory e k (r .plain)))
       → RunBeside (suc n) (onTaintedStep memory q x (taintedRun memory e n)) (onStep memory (q .plain) y (run memory e n)) (cutAt e (q .plain) y)
   step-case e n q x y at-sink h = record { transparent = λ a. absurd (a refl); early = λ a. (omega arith, refl) }

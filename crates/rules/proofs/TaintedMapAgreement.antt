@@ -3,14 +3,14 @@ use Prim.Native.Nat.{ℕ, zero, suc, _-_}
 use mathlib.Core.Path.{_≡_, refl, ap, subst}
 use mathlib.Core.List.{List, [], _∷_}
 use Rattle.rules.specs.declared.Instruction.{Instruction}
-use Rattle.rules.specs.Results.{Guarded}
+use Rattle.rules.specs.Results.{TaintedResult}
 use Rattle.rules.specs.Cells.{Cells, cells}
 use Rattle.rules.specs.PlainMap.{PlainMap, plainMap}
 use Rattle.rules.specs.Opcodes.{Class, field, equality, small, complement, move, assert, rangeCheck, jump, conditionalJump, call, return, load, store, tapeLoad, tapeStore, contractCall, end, uncovered, classOf}
 use Rattle.rules.specs.Operands.{Operands}
 use Rattle.rules.specs.Step.{Environment, State, r9, Ran}
 use Rattle.rules.specs.Taint.{Taints, slotTaint, cellTaint, spanTaint, readSink, cleanMany, taintsAfter, TaintedState, TaintedNext, taintedRest, taintedStep, onTaintedStep, taintedRun}
-use Rattle.rules.specs.Relations.{BothGuarded, refused-alike, sink-alike, passed-alike, BothRan}
+use Rattle.rules.specs.Relations.{BothTainted, refused-alike, sink-alike, passed-alike, BothRan}
 use Rattle.rules.specs.MapAgreement.{withMap, mapTaintedState, SameMemory, SameTaints, SameTaintedState, SameTaintedNext, TaintedRising, MapAgreement}
 use Rattle.rules.proofs.Relational.{both-after, both-after-equal, both-guard, both-finish}
 use Rattle.rules.proofs.PlainMapAgreement.{same-map, same-put, same-with, with-same, same-operate, same-capacity, same-step, same-run}
@@ -89,7 +89,7 @@ abbrev taintedWith : TaintedState (cells ℕ) → PlainMap ℕ → PlainMap ℕ 
 taintedWith q m n = record { plain = withMap (q .plain) m; taints = taintsWith (q .taints) n }
 
 same-tainted-with : (e : Environment) (q : TaintedState (cells ℕ)) (m n : PlainMap ℕ) → SameMemory (q .plain .cells) m → SameMemory (q .taints .cells) n
-    → BothGuarded SameTaintedNext (taintedStep (cells ℕ) e q) (taintedStep (plainMap ℕ) e (taintedWith q m n))
+    → BothTainted SameTaintedNext (taintedStep (cells ℕ) e q) (taintedStep (plainMap ℕ) e (taintedWith q m n))
 unfolding taintedStep taintedRest
 same-tainted-with e q m n h g =
     both-after-equal _ _ refl λ i.
@@ -101,9 +101,9 @@ same-tainted-with e q m n h g =
     passed-alike (record { next = k; taints = same-taints-after i (q .plain) m o (q .taints) n g (classOf (i .opcode)) })))
 
 pub same-tainted-step : (e : Environment) {q : TaintedState (cells ℕ)} {r : TaintedState (plainMap ℕ)} → SameTaintedState q r
-    → BothGuarded SameTaintedNext (taintedStep (cells ℕ) e q) (taintedStep (plainMap ℕ) e r)
+    → BothTainted SameTaintedNext (taintedStep (cells ℕ) e q) (taintedStep (plainMap ℕ) e r)
 same-tainted-step e {q} {r} h =
-    subst (λ r. BothGuarded SameTaintedNext (taintedStep (cells ℕ) e q) (taintedStep (plainMap ℕ) e r)) whole
+    subst (λ r. BothTainted SameTaintedNext (taintedStep (cells ℕ) e q) (taintedStep (plainMap ℕ) e r)) whole
     (same-tainted-with e q (r .plain .cells) (r .taints .cells) (h .plain .cells) (h .taints .cells))
   where
     whole : taintedWith q (r .plain .cells) (r .taints .cells) ≡ r
@@ -114,9 +114,9 @@ left : {n : TaintedNext (cells ℕ)} {m : TaintedNext (plainMap ℕ)} → SameTa
     → SameTaintedState (record { plain = n .next .state; taints = n .taints }) (record { plain = m .next .state; taints = m .taints })
 left a = record { plain = a .next .state; taints = a .taints }
 
-same-on-step : {q : TaintedState (cells ℕ)} {r : TaintedState (plainMap ℕ)} {x : Guarded (TaintedNext (cells ℕ))} {y : Guarded (TaintedNext (plainMap ℕ))}
+same-on-step : {q : TaintedState (cells ℕ)} {r : TaintedState (plainMap ℕ)} {x : TaintedResult (TaintedNext (cells ℕ))} {y : TaintedResult (TaintedNext (plainMap ℕ))}
     (k : TaintedState (cells ℕ) → Ran (TaintedState (cells ℕ))) (l : TaintedState (plainMap ℕ) → Ran (TaintedState (plainMap ℕ)))
-    → SameTaintedState q r → BothGuarded SameTaintedNext x y
+    → SameTaintedState q r → BothTainted SameTaintedNext x y
     → ((q : TaintedState (cells ℕ)) (r : TaintedState (plainMap ℕ)) → SameTaintedState q r → BothRan SameTaintedState (k q) (l r))
     → BothRan SameTaintedState (onTaintedStep (cells ℕ) q x k) (onTaintedStep (plainMap ℕ) r y l)
 same-on-step k l h refused-alike g = record { answer = refl; steps = refl; state = h }

@@ -9,7 +9,7 @@ use lib.ListN.{length, getD}
 use borrow.Author.Tests.{eq-eqb}
 use Rattle.rules.specs.declared.Instruction.{Instruction}
 use Rattle.rules.specs.Numbers.{p, choose, bit}
-use Rattle.rules.specs.Results.{pass, Guarded, passes}
+use Rattle.rules.specs.Results.{pass, TaintedResult, passes}
 use Rattle.rules.specs.Memory.{present}
 use Rattle.rules.specs.Cells.{Cells, none, cell, get, put, addresses, RisingFrom, cells}
 use Rattle.rules.specs.Opcodes.{Class, field, equality, small, complement, move, assert, rangeCheck, jump, conditionalJump, call, return, load, store, tapeLoad, tapeStore, contractCall, end, uncovered, classOf}
@@ -20,7 +20,7 @@ use Rattle.rules.specs.Relations.{Both, passed}
 use Rattle.rules.specs.Soundness.{Sound, TaintedSound, KeepsSound}
 use Rattle.rules.proofs.BoolLaws.{false-true}
 use Rattle.rules.proofs.CellLaws.{get-put, other-address}
-use Rattle.rules.proofs.Passing.{passing-at, PassingGuarded, refused-guarded, sink-guarded, passed-guarded, passing-after, passing-after-any, passing-guard, finish-keeps}
+use Rattle.rules.proofs.Passing.{passing-at, PassingTainted, refused-tainted, sink-tainted, passed-tainted, passing-after, passing-after-any, passing-guard, finish-keeps}
 use Rattle.rules.proofs.PlainSoundness.{operate-keeps, capacity-sound, output-within, step-sound, run-sound}
 use Rattle.rules.proofs.LowStates.{Related, equal, hidden, RegistersRelated, CellsRelated, registers-get, cell-read}
 use Rattle.rules.proofs.LowRuns.{TaintedRelated, run-agrees}
@@ -148,7 +148,7 @@ record Kept (e : Environment) (q : TaintedState (cells ℕ)) : Type 0 where
 abbrev left : TaintedNext (cells ℕ) → TaintedState (cells ℕ)
 left n = record { plain = n .next .state; taints = n .taints }
 
-step-keeps : (e : Environment) (q : TaintedState (cells ℕ)) → Kept e q → PassingGuarded (λ n. Kept e (left n)) (taintedStep (cells ℕ) e q)
+step-keeps : (e : Environment) (q : TaintedState (cells ℕ)) → Kept e q → PassingTainted (λ n. Kept e (left n)) (taintedStep (cells ℕ) e q)
 unfolding taintedStep taintedRest
 step-keeps e q h =
     passing-after-any _ _ λ i.
@@ -157,14 +157,14 @@ step-keeps e q h =
     (passing-after _ (operate-keeps e i (q .plain) o (h .plain) (classOf (i .opcode))) λ n k.
     passing-guard _
     (passing-after _ (capacity-sound e n k) λ n l.
-    passed-guarded (record { plain = l; zeroOrOne = after-bits (q .taints) (classOf (i .opcode)) i (q .plain) o (h .zeroOrOne) })))
+    passed-tainted (record { plain = l; zeroOrOne = after-bits (q .taints) (classOf (i .opcode)) i (q .plain) o (h .zeroOrOne) })))
 
-on-step-keeps : (e : Environment) (q : TaintedState (cells ℕ)) {r : Guarded (TaintedNext (cells ℕ))}
-    (k : TaintedState (cells ℕ) → Ran (TaintedState (cells ℕ))) → Kept e q → PassingGuarded (λ n. Kept e (left n)) r
+on-step-keeps : (e : Environment) (q : TaintedState (cells ℕ)) {r : TaintedResult (TaintedNext (cells ℕ))}
+    (k : TaintedState (cells ℕ) → Ran (TaintedState (cells ℕ))) → Kept e q → PassingTainted (λ n. Kept e (left n)) r
     → ((q : TaintedState (cells ℕ)) → Kept e q → Kept e (k q .state)) → Kept e (onTaintedStep (cells ℕ) q r k .state)
-on-step-keeps e q k h refused-guarded g = h
-on-step-keeps e q k h sink-guarded g = h
-on-step-keeps e q k h (passed-guarded {a = n} x) g = finish-keeps (Kept e) (n .next .finish) (n .next .state .clk) (left n) k x (g (left n) x)
+on-step-keeps e q k h refused-tainted g = h
+on-step-keeps e q k h sink-tainted g = h
+on-step-keeps e q k h (passed-tainted {a = n} x) g = finish-keeps (Kept e) (n .next .finish) (n .next .state .clk) (left n) k x (g (left n) x)
 
 run-keeps : (e : Environment) (budget : ℕ) (q : TaintedState (cells ℕ)) → Kept e q → Kept e (taintedRun (cells ℕ) e budget q .state)
 unfolding taintedRun

@@ -4,13 +4,13 @@ use mathlib.Core.Path.{_≡_, refl, ap, _∙_}
 use mathlib.Core.List.{List, _++_}
 use Rattle.rules.specs.declared.Instruction.{Instruction}
 use Rattle.rules.specs.declared.Refusal.the-variants.{NotInField, NotSmall, AssertFailed, RangeCheckFailed, TapeFault, StoreFault, NoCapacity}
-use Rattle.rules.specs.Results.{Result, Guarded}
+use Rattle.rules.specs.Results.{Result, TaintedResult}
 use Rattle.rules.specs.Cells.{cells}
 use Rattle.rules.specs.Opcodes.{Class, field, equality, small, complement, move, assert, rangeCheck, jump, conditionalJump, call, return, load, store, tapeLoad, tapeStore, contractCall, end, uncovered, classOf}
 use Rattle.rules.specs.Operands.{Operands}
 use Rattle.rules.specs.Step.{Environment, State, Next, overlay, operate, capacity, step, Ran, onStep, run}
 use Rattle.rules.specs.Taint.{Taints, readSink, taintsAfter, TaintedState, TaintedNext, taintedRest, taintedStep, onTaintedStep, taintedRun}
-use Rattle.rules.specs.Relations.{Both, refused, passed, BothGuarded, refused-alike, sink-alike, passed-alike, BothRan}
+use Rattle.rules.specs.Relations.{Both, refused, passed, BothTainted, refused-alike, sink-alike, passed-alike, BothRan}
 use Rattle.rules.proofs.OverlayLaws.{overlay-overlay}
 use Rattle.rules.proofs.Relational.{both-bind, both-bind-equal, both-require, both-after, both-after-equal, both-guard, both-finish}
 
@@ -140,7 +140,7 @@ data TaintedNextBehind (w : List ℕ) : TaintedNext (cells ℕ) → TaintedNext 
       → TaintedNextBehind w (record { next = n; taints = u }) (record { next = m; taints = u })
 
 tainted-step-behind : (w : List ℕ) (e : Environment) {q r : TaintedState (cells ℕ)} → TaintedBehind w q r
-    → BothGuarded (TaintedNextBehind w) (taintedStep (cells ℕ) e q) (taintedStep (cells ℕ) e r)
+    → BothTainted (TaintedNextBehind w) (taintedStep (cells ℕ) e q) (taintedStep (cells ℕ) e r)
 unfolding taintedStep taintedRest
 tainted-step-behind w e (tainted-behind {u = u} (behind {s} v h)) =
     both-after-equal _ _ refl λ i.
@@ -151,8 +151,8 @@ tainted-step-behind w e (tainted-behind {u = u} (behind {s} v h)) =
     (both-after _ _ (capacity-behind w e k) λ n m k.
     rw (← (taints-behind w e i s v o h u (classOf (i .opcode)))) (passed-alike (tainted-next-behind k))))
 
-on-tainted-step-behind : (w : List ℕ) {q r : TaintedState (cells ℕ)} {x y : Guarded (TaintedNext (cells ℕ))}
-    (k : TaintedState (cells ℕ) → Ran (TaintedState (cells ℕ))) → TaintedBehind w q r → BothGuarded (TaintedNextBehind w) x y
+on-tainted-step-behind : (w : List ℕ) {q r : TaintedState (cells ℕ)} {x y : TaintedResult (TaintedNext (cells ℕ))}
+    (k : TaintedState (cells ℕ) → Ran (TaintedState (cells ℕ))) → TaintedBehind w q r → BothTainted (TaintedNextBehind w) x y
     → ((q r : TaintedState (cells ℕ)) → TaintedBehind w q r → BothRan (TaintedBehind w) (k q) (k r))
     → BothRan (TaintedBehind w) (onTaintedStep (cells ℕ) q x k) (onTaintedStep (cells ℕ) r y k)
 on-tainted-step-behind w k b refused-alike g = record { answer = refl; steps = refl; state = b }

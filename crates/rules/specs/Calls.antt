@@ -24,11 +24,11 @@ pub record Called (S : Type 0) : Type 0 where
 abbrev pub refused : {S : Type 0} → Refusal → S → Called S
 refused f s = record { answer = refusalMeaning f; steps = 0; left = s }
 
-abbrev pub plainRun : List Instruction → ℕ → Snapshot → Ran (State (cells ℕ))
-plainRun program budget s = run (cells ℕ) (environment program s) budget (stateOf s)
+abbrev pub plainRunOf : List Instruction → ℕ → Snapshot → Ran (State (cells ℕ))
+plainRunOf program budget s = run (cells ℕ) (environment program s) budget (stateOf s)
 
-abbrev pub guardedRun : List Instruction → ℕ → TaintedSnapshot → Ran (TaintedState (cells ℕ))
-guardedRun program budget g = taintedRun (cells ℕ) (environment program (g .plain)) budget (taintedStateOf g)
+abbrev pub taintedRunOf : List Instruction → ℕ → TaintedSnapshot → Ran (TaintedState (cells ℕ))
+taintedRunOf program budget g = taintedRun (cells ℕ) (environment program (g .plain)) budget (taintedStateOf g)
 
 abbrev pub plainAnswered : Snapshot → Ran (State (cells ℕ)) → Called Snapshot
 plainAnswered s r = record { answer = meaning (r .answer); steps = r .steps; left = snapshotAfter s (r .state) }
@@ -39,11 +39,11 @@ taintedAnswered g r = record { answer = meaning (r .answer); steps = r .steps; l
 -- of a program as loaded
 unfoldable pub plainCall : Result (List Instruction) → ℕ → Snapshot → Called Snapshot
 plainCall (refuse f) budget s = refused f s
-plainCall (pass program) budget s = choose (plainEntry s) (plainAnswered s (plainRun program budget s)) (refused BadState s)
+plainCall (pass program) budget s = choose (plainEntry s) (plainAnswered s (plainRunOf program budget s)) (refused BadState s)
 
 unfoldable pub taintedCall : Result (List Instruction) → ℕ → TaintedSnapshot → Called TaintedSnapshot
 taintedCall (refuse f) budget g = refused f g
-taintedCall (pass program) budget g = choose (taintedEntry g) (taintedAnswered g (guardedRun program budget g)) (refused BadState g)
+taintedCall (pass program) budget g = choose (taintedEntry g) (taintedAnswered g (taintedRunOf program budget g)) (refused BadState g)
 
 -- a text's own budget; 0 where the text is refused, which no answer shows
 abbrev pub jobBudget : Result Job → ℕ

@@ -1,5 +1,5 @@
 -- Refusals 1, 2 and 3: a row for each condition of document 01's table, and rows at its edge that pass. What passes is END, which gives e0.
--- The theorems stand in proofs/RefusalsHold.antt.
+-- The theorems stand in proofs/AllCases.antt.
 use Prim.Native.Nat.{ℕ}
 use mathlib.Core.Path.{_≡_}
 use mathlib.Core.List.{List, [], _∷_, _++_}
@@ -64,7 +64,7 @@ wordRefusals =
     -- value words: one of three is missing; none is
     ∷ refusedWords (0x490b ∷ 0 ∷ 0 ∷ [])
     ∷ passedWords (0x490b ∷ 0 ∷ 0 ∷ 0 ∷ [])
-    -- the second frame is malformed; it takes all that are left
+    -- the second frame is malformed
     ∷ row (words (0xb ∷ 0x1b ∷ 0xb ∷ [])) nothing (malformed 2) 0 []
     ∷ []
 
@@ -82,21 +82,27 @@ WordRefusalsHold =
     -- 512 frames pass, 513: 1
     × (words (replicate 512 0xb) .answer ≡ e0)
     × (words (replicate 513 0xb) .answer ≡ refused 1)
+    -- a malformed frame takes all that are left
+    × (words (0x1b ∷ replicate 512 0xb) .answer ≡ malformed 1)
 
 abbrev pub TextRefusalsHold : Type 0
 TextRefusalsHold =
     (text (bytes "000000000000000b\n") ≡ e0)
     × (text [] ≡ refused 1)
-    -- no line feed; 15 digits; 17; no digit; a word too many; one that is missing; an empty line
+    -- no line feed; 15 digits; 17; no digit, next to 0-9 and a-f; a word too many; one that is missing; an empty line
     × (text (bytes "000000000000000b") ≡ malformed 1)
     × (text (bytes "00000000000000b\n") ≡ malformed 1)
     × (text (bytes "0000000000000000b\n") ≡ malformed 1)
     × (text (bytes "000000000000000B\n") ≡ malformed 1)
+    × (text (bytes "000000000000000/\n") ≡ malformed 1)
+    × (text (bytes "000000000000000:\n") ≡ malformed 1)
+    × (text (bytes "000000000000000`\n") ≡ malformed 1)
+    × (text (bytes "000000000000000g\n") ≡ malformed 1)
     × (text (bytes "000000000000000b0000000000000000\n") ≡ malformed 1)
     × (text (bytes "000000000000010b\n") ≡ malformed 1)
     × (text (bytes "000000000000000b\n\n") ≡ malformed 2)
     -- the budget line: 0 in number, not among the 512 frames, hexadecimal
-    × (budgetText (bytes "0000000000000001\n000000000000000b\n") ≡ e0)
+    × (budgetText (bytes "0123456789abcdef\n000000000000000b\n") ≡ e0)
     × (budgetText (bytes "0000000000000000\n000000000000000b\n") ≡ e3)
     × (budgetText (bytes "000000000000001\n000000000000000b\n") ≡ malformed 0)
     × (budgetText (bytes "0000000000000001\n000000000000001b\n") ≡ malformed 1)

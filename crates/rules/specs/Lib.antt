@@ -16,6 +16,7 @@ pub mod Answers
 pub mod Entry
 pub mod Calls
 pub mod Solve
+pub mod MalformedFrames
 pub mod TaintRules
 pub mod SinkRules
 pub mod NonInterference
@@ -29,6 +30,7 @@ pub mod StoreOrder
 pub mod SinkOrder
 pub mod EntryRefusals
 pub mod StepRefusals
+pub mod StepCases
 pub mod Soundness
 pub mod Resumption
 pub mod SplitCalls

@@ -8,7 +8,7 @@ use Rattle.rules.specs.Step as Plain
 use Rattle.rules.specs.Step.{Environment, State, Next}
 use Rattle.rules.specs.Taint as Tainted
 use Rattle.rules.specs.Taint.{Taints, TaintedState, TaintedNext}
-use Rattle.rules.specs.Relations.{Both, BothGuarded, BothRan}
+use Rattle.rules.specs.Relations.{Both, BothTainted, BothRan}
 
 -- The plain map of a list of cells, and the states over it
 
@@ -81,6 +81,6 @@ pub record MapAgreement (e : Environment) : Type 0 where
   pub run : (budget : ℕ) (s : State (cells ℕ)) → Rising (s .cells)
       → BothRan SameState (Plain.run (cells ℕ) e budget s) (Plain.run (plainMap ℕ) e budget (mapState s))
   pub taintedStep : (q : TaintedState (cells ℕ)) → TaintedRising q
-      → BothGuarded SameTaintedNext (Tainted.taintedStep (cells ℕ) e q) (Tainted.taintedStep (plainMap ℕ) e (mapTaintedState q))
+      → BothTainted SameTaintedNext (Tainted.taintedStep (cells ℕ) e q) (Tainted.taintedStep (plainMap ℕ) e (mapTaintedState q))
   pub taintedRun : (budget : ℕ) (q : TaintedState (cells ℕ)) → TaintedRising q
       → BothRan SameTaintedState (Tainted.taintedRun (cells ℕ) e budget q) (Tainted.taintedRun (plainMap ℕ) e budget (mapTaintedState q))

@@ -1,6 +1,6 @@
 -- The order of the refusals: a pair for any two that can meet in one call, or in one step of the plain machine. Each pair has a call in
 -- which the conditions of both hold, with the answer that document 01's table puts first, and that call with the first condition mended,
--- with the other answer. Refusal 18 is in SinkOrder.antt. The theorems stand in proofs/RefusalOrderHolds.antt.
+-- with the other answer. Refusal 18 is in SinkOrder.antt. The theorems stand in proofs/AllCases.antt.
 use Prim.Native.Nat.{ℕ, zero, suc}
 use mathlib.Core.Path.{_≡_}
 use mathlib.Core.List.{List, [], _∷_, _++_}
@@ -13,7 +13,7 @@ use Rattle.rules.specs.Answers.{Meaning, refusal}
 use Rattle.rules.specs.Entry.{Snapshot}
 use Rattle.rules.specs.Calls.{Called, plainText, plainBudgetText}
 use Rattle.rules.specs.Encoding.{frame, imm, absent6, offset7, bytes}
-use Rattle.rules.specs.Rows.{Start, start, withClk, fourCells, full, snapshot, Hold, plain, e3, refused, Pair, pair, pairOf, inStep, rowsOf, forEach}
+use Rattle.rules.specs.Rows.{Start, start, withTaintedR, withClk, fourCells, full, snapshot, Hold, plain, tainted, e3, refused, Pair, pair, pairOf, inStep, rowsOf, forEach}
 
 -- one step
 abbrev once : List ℕ → Start → Called Snapshot
@@ -41,6 +41,10 @@ zeroLines (suc k) n = replicate n 48 ++ (10 ∷ zeroLines k n)
 abbrev badState : Start
 badState = withClk 1000000000000 start
 
+-- refused 3: a register taint beyond R9
+abbrev badTaint : Start
+badTaint = withTaintedR 10 0 start
+
 abbrev text : List ℕ → Called Snapshot
 text cs = plainText cs 1 (snapshot start)
 
@@ -56,6 +60,9 @@ entryOrder =
     pair 1 (once [] badState) 3 (once (endFrames 1) badState)
     -- 2 before 3
     ∷ pairOf (malformed 1) (once (0x1f ∷ []) badState) (refused 3) (once (endFrames 1) badState)
+    -- 1 before 3, and 2 before 3, of a tainted call
+    ∷ pair 1 (tainted 1 [] badTaint) 3 (tainted 1 (endFrames 1) badTaint)
+    ∷ pairOf (malformed 1) (tainted 1 (0x1f ∷ []) badTaint) (refused 3) (tainted 1 (endFrames 1) badTaint)
     -- 3 before a pause at budget 0
     ∷ pairOf (refused 3) (plain 0 (endFrames 1) badState) e3 (plain 0 (endFrames 1) start)
     ∷ []

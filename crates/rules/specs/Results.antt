@@ -17,16 +17,16 @@ bind (refuse f) k = refuse f
 bind (pass a) k = k a
 
 -- the same in a tainted step, which refuses at a sink too: `sink` is refusal 18
-pub data Guarded (A : Type 0) : Type 0 where
-  refuses : Refusal → Guarded A
-  sink : Guarded A
-  passes : A → Guarded A
+pub data TaintedResult (A : Type 0) : Type 0 where
+  refuses : Refusal → TaintedResult A
+  sink : TaintedResult A
+  passes : A → TaintedResult A
 
-unfoldable pub after : {A B : Type 0} → Result A → (A → Guarded B) → Guarded B
+unfoldable pub after : {A B : Type 0} → Result A → (A → TaintedResult B) → TaintedResult B
 after (refuse f) k = refuses f
 after (pass a) k = k a
 
 -- refusal 18 where the test passes, else the result
-unfoldable pub guard : {A : Type 0} → Bool → Guarded A → Guarded A
+unfoldable pub guard : {A : Type 0} → Bool → TaintedResult A → TaintedResult A
 guard true r = sink
 guard false r = r

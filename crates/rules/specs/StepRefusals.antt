@@ -1,6 +1,6 @@
 -- Refusals 4 to 16 and the outcomes: a row for each condition of document 01's table, rows at its edge that pass, and what a step leaves.
 -- The order of refusals stands in RefusalOrder.antt and behind it, the clock in StoreOrder.antt, 18 in SinkOrder.antt. The theorems stand
--- in proofs/RefusalsHold.antt.
+-- in proofs/AllCases.antt.
 use Prim.Native.Nat.{ℕ}
 use mathlib.Core.List.{List, [], _∷_, _++_}
 use Rattle.rules.specs.declared.OlaOpcode.the-variants as O
@@ -39,7 +39,7 @@ unfoldable pub operandRefusals : List Row
 operandRefusals =
     -- 4: pc past the last instruction, and inside one; the steps before it stand
     row (plain 2 (move (imm 5)) start) (registerAt 0) (refused 4) 1 (5 ∷ [])
-    ∷ row (plain 2 (frame O.Jmp Absent (imm 1) Absent) start) pcOf (refused 4) 1 (1 ∷ [])
+    ∷ row (plain 2 (frame O.Jmp Absent (imm 1) Absent ++ move (imm 5)) start) pcOf (refused 4) 1 (1 ∷ [])
     -- 5: opcodes 19, 20, 21, 25, 26
     ∷ refuses 5 (frame O.Poseidon (imm 0) (imm 0) r0) start
     ∷ refuses 5 (frame O.Sload (imm 0) (imm 0) r0) start
@@ -63,7 +63,13 @@ operandRefusals =
     ∷ refuses 6 (frame O.Mov Absent (imm 5) Pc) start
     -- 6: ASSERT without a register; op0 of JMP
     ∷ refuses 6 (frame O.Assert Absent (imm 1) Absent) start
+    ∷ refuses 6 (frame O.Jmp (imm 0) (imm 0) Absent) start
     ∷ refuses 6 (frame O.Jmp r1 (imm 0) Absent) start
+    ∷ refuses 6 (frame O.Jmp (RegisterWithOffset 1 0) (imm 0) Absent) start
+    ∷ refuses 6 (frame O.Jmp (RegisterWithFactor 1 0) (imm 0) Absent) start
+    ∷ refuses 6 (frame O.Jmp Psp (imm 0) Absent) start
+    ∷ refuses 6 (frame O.Jmp Pc (imm 0) Absent) start
+    ∷ gives (frame O.Jmp Absent (imm 9) Absent) start pcOf (9 ∷ [])
     -- operands that an opcode does not read are ignored
     ∷ passes (frame O.Mov Pc (imm 5) r0) start
     ∷ passes (frame O.Rc Pc (imm 5) Pc) start

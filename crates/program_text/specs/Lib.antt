@@ -1,0 +1,3 @@
+-- What the contracts of `program_text` cite beside the rules.
+pub mod Lines
+pub mod Loads

@@ -1,0 +1,116 @@
+// Lines of a text, each ended by a line feed.
+use hexadecimal::word;
+use program::binary_program::frame_length;
+use rules::HexWord;
+use rules::Refusal;
+ghost use mathlib.Core.Path.{_≡_};
+ghost use Prim.Native.Nat.{_+_, _*_, _-_, _≤_, _<_};
+ghost use lib.Dec.{ltb, leb};
+ghost use lib.ListN.{length, take, drop};
+ghost use Rattle.rules.specs.declared.Refusal.the-variants.{BadLength, MalformedFrame};
+ghost use Rattle.rules.specs.Numbers.{choose};
+ghost use Rattle.rules.specs.Text.{linesOf};
+ghost use Rattle.program_text.specs.Lines.{lineLength, ReadsWords, ReadsLine};
+
+// What a line holds: the words of a frame, or it is malformed.
+pub(crate) enum Line {
+    Words(usize),
+    Malformed,
+}
+
+// Where the line that starts at a place ends: at its line feed, or with the text.
+pub(crate) fn line_end(text: &[u8], at: usize) -> usize
+    requires { ⌜ at ≤ length (now text) ⌝ }
+    ensures { λ r. ⌜ (r ≡ at + lineLength (drop at (now (text .entry)))) × (r ≤ length (now (text .entry))) ⌝ }
+{
+    let mut i = at;
+    while i < text.len() {
+        if text[i] == b'\n' {
+            return i;
+        }
+        i += 1;
+    }
+    i
+}
+
+// Are there more lines than `limit` from a place on?
+fn more_lines(text: &[u8], from: usize, limit: usize) -> bool
+    requires { ⌜ from ≤ length (now text) ⌝ }
+    ensures { λ r. ⌜ r ≡ ltb limit (length (linesOf (drop from (now (text .entry))))) ⌝ }
+{
+    let mut at = from;
+    let mut left = limit;
+    while at < text.len() {
+        if left == 0 {
+            return true;
+        }
+        left = left - 1;
+        let end = line_end(text, at);
+        if end == text.len() {
+            return false;
+        }
+        at = end + 1;
+    }
+    false
+}
+
+// The refusal of a program whose line of a number is malformed: that there are too many lines goes before.
+pub(crate) fn malformed(text: &[u8], next: usize, number: usize) -> Refusal
+    requires { ⌜ (next ≤ length (now text)) × (number ≤ 512) ⌝ }
+    ensures { λ r. ⌜ r ≡ choose (leb (number + length (linesOf (drop next (now (text .entry))))) 512) (MalformedFrame number) BadLength ⌝ }
+{
+    if more_lines(text, next, 512 - number) {
+        return Refusal::BadLength;
+    }
+    Refusal::MalformedFrame(number as u64)
+}
+
+// Reads words of 16 digits each from a place on into the buffer; false where some character is no digit.
+fn read_words(text: &[u8], at: usize, count: usize, words: &mut [u64; 2048], used: usize) -> bool
+    requires { ⌜ at + 16 * count ≤ length (now text) ⌝ }
+    requires { ⌜ (used + count ≤ 2048) × (length (now words) ≡ 2048) ⌝ }
+    ensures { λ r. ⌜ ReadsWords (drop at (now (text .entry))) count used (now (words .entry)) (now (words .exit)) r ⌝ }
+{
+    let mut i = 0;
+    while i < count {
+        let HexWord::Word(value) = word(text, at + 16 * i) else {
+            return false;
+        };
+        words[used + i] = value;
+        i += 1;
+    }
+    true
+}
+
+// Reads a line, from its start to its line feed. How many words it must have is known from the first, so that no more is read of a
+// longer one.
+pub(crate) fn read_line(
+    text: &[u8],
+    at: usize,
+    end: usize,
+    words: &mut [u64; 2048],
+    used: usize,
+) -> Line
+    requires { ⌜ (at ≤ end) × (end ≤ length (now text)) ⌝ }
+    requires { ⌜ (used + 4 ≤ 2048) × (length (now words) ≡ 2048) ⌝ }
+    ensures { λ r. ⌜ ReadsLine (take (end - at) (drop at (now (text .entry)))) used (now (words .entry)) (now (words .exit)) r ⌝ }
+{
+    if end - at < 16 {
+        return Line::Malformed;
+    }
+    let HexWord::Word(first) = word(text, at) else {
+        return Line::Malformed;
+    };
+    let count = frame_length(first);
+    if count == 0 {
+        return Line::Malformed;
+    }
+    if end - at != 16 * count {
+        return Line::Malformed;
+    }
+    words[used] = first;
+    if !read_words(text, at + 16, count - 1, words, used + 1) {
+        return Line::Malformed;
+    }
+    Line::Words(count)
+}

@@ -1,0 +1,162 @@
+-- What each opcode gives, how far it moves pc, what it taints, and what `solve` prints of refusals. Document 01, 'The step', the end of
+-- 'Frames', 'Marks' and the end of 'Cases'. The theorems stand in proofs/AllCases.antt.
+use Prim.Native.Nat.{ℕ}
+use mathlib.Core.Path.{_≡_}
+use mathlib.Core.List.{List, [], _∷_, _++_}
+use Rattle.rules.specs.declared.OlaOpcode.{OlaOpcode}
+use Rattle.rules.specs.declared.OlaOpcode.the-variants as O
+use Rattle.rules.specs.declared.OlaOperand.{OlaOperand}
+use Rattle.rules.specs.declared.OlaOperand.the-variants.{Absent, Register, RegisterWithOffset, RegisterWithFactor, Psp, Pc}
+use Rattle.rules.specs.Answers.{outcome}
+use Rattle.rules.specs.Entry.{Snapshot, TaintedSnapshot, usedTape, usedOutput}
+use Rattle.rules.specs.Calls.{plainBudgetText}
+use Rattle.rules.specs.Solve.{solve, printed}
+use Rattle.rules.specs.Encoding.{frame, imm, bytes}
+use Rattle.rules.specs.Rows.{Start, start, withR, withTaintedR, withCell, withTaintedCell, withTape, withClk, fourCells, snapshot, Row, row, Hold, plain, tainted, e0, e3, registerAt, cellAt, clkOf, taintedRegisterAt, taintedCellAt}
+use Rattle.rules.specs.RefusalOrder.{endLines}
+
+abbrev r0 : OlaOperand
+r0 = Register 0
+
+abbrev r1 : OlaOperand
+r1 = Register 1
+
+-- one step, and what is looked at after it
+abbrev gives : List ℕ → Start → (Snapshot → List ℕ) → List ℕ → Row
+gives words s look about = row (plain 1 words s) look e3 1 about
+
+-- op0 and op1 to R0
+abbrev computes : OlaOpcode → ℕ → ℕ → ℕ → Row
+computes o a b n = gives (frame o (imm a) (imm b) r0) start (registerAt 0) (n ∷ [])
+
+abbrev pcOf : Snapshot → List ℕ
+pcOf s = s .machine .pc ∷ []
+
+abbrev loop : List ℕ
+loop = frame O.Jmp Absent (imm 0) Absent
+
+unfoldable pub results : List Row
+results =
+    computes O.Add 0xFFFFFFFF00000000 3 2
+    ∷ computes O.Mul 0xFFFFFFFF00000000 3 0xFFFFFFFEFFFFFFFE
+    ∷ computes O.Eq 5 5 1
+    ∷ computes O.Eq 5 6 0
+    ∷ computes O.Neq 5 6 1
+    ∷ computes O.Neq 5 5 0
+    ∷ computes O.Gte 5 4 1
+    ∷ computes O.Gte 4 5 0
+    ∷ computes O.And 0xC 0xA 8
+    ∷ computes O.Or 0xC 0xA 0xE
+    ∷ computes O.Xor 0xC 0xA 6
+    ∷ gives (frame O.Not Absent (imm 0xFFFFFFFF00000000) r0) start (registerAt 0) (0 ∷ [])
+    -- MSTORE writes the number of register dst; CALL the following pc
+    ∷ gives (frame O.Mstore (imm 2) (imm 3) r0) start (cellAt 5) (7 ∷ [])
+    ∷ gives (frame O.Call Absent (imm 9) Absent) (withR 9 1 start) pcOf (9 ∷ [])
+    ∷ gives (frame O.Call Absent r1 Absent) (withR 9 1 start) (cellAt 0) (1 ∷ [])
+    -- TSTORE: to the end of tape and output
+    ∷ gives (frame O.Tstore (imm 1) (imm 2) Absent) (withTape (9 ∷ []) (fourCells start)) usedTape (9 ∷ 6 ∷ 7 ∷ [])
+    ∷ gives (frame O.Tstore (imm 1) (imm 2) Absent) (withTape (9 ∷ []) (fourCells start)) usedOutput (6 ∷ 7 ∷ [])
+    -- each step adds 1 to clk
+    ∷ row (plain 5 loop (withClk 4 start)) clkOf e3 5 (9 ∷ [])
+    ∷ []
+
+-- how far pc moves: 2 for MLOAD and MSTORE, else 2 where op1 has kind 1, 3 or 4, else 1
+unfoldable pub lengths : List Row
+lengths =
+    gives (frame O.Mload (imm 0) r1 r0) (fourCells start) pcOf (2 ∷ [])
+    ∷ gives (frame O.Mstore (imm 0) r1 r0) start pcOf (2 ∷ [])
+    ∷ gives (frame O.Mov Absent (imm 5) r0) start pcOf (2 ∷ [])
+    ∷ gives (frame O.Mov Absent r1 r0) start pcOf (1 ∷ [])
+    ∷ gives (frame O.Mov Absent (RegisterWithOffset 1 5) r0) start pcOf (2 ∷ [])
+    ∷ gives (frame O.Mov Absent (RegisterWithFactor 1 5) r0) start pcOf (2 ∷ [])
+    ∷ gives (frame O.Mov Absent Psp r0) start pcOf (1 ∷ [])
+    -- whatever the frame's length: op0 and dst do not count
+    ∷ gives (frame O.Add (imm 5) r1 r0) start pcOf (1 ∷ [])
+    ∷ gives (frame O.Tload (imm 1) r1 (imm 5)) start pcOf (1 ∷ [])
+    ∷ gives (frame O.Tstore (imm 0) r1 Absent) start pcOf (1 ∷ [])
+    ∷ gives (frame O.Cjmp (imm 0) r1 Absent) start pcOf (1 ∷ [])
+    ∷ gives (frame O.Assert Absent r1 Absent) (withR 1 1 start) pcOf (1 ∷ [])
+    -- END and SCCALL
+    ∷ row (plain 1 (frame O.End Absent (imm 5) Absent) start) pcOf e0 1 (2 ∷ [])
+    ∷ row (plain 1 (frame O.End Absent Pc Absent) start) pcOf e0 1 (1 ∷ [])
+    ∷ row (plain 1 (frame O.Sccall (imm 0) r1 Absent) (fourCells start)) pcOf (outcome 1 (5 ∷ 6 ∷ 7 ∷ 8 ∷ [])) 1 (1 ∷ [])
+    -- an opcode of refusal 5, jumped over
+    ∷ row (plain 2 (frame O.Jmp Absent (imm 3) Absent ++ (frame O.Sload r1 r1 r0 ++ frame O.Mov Absent r1 r0)) start) pcOf e3 2 (4 ∷ [])
+    ∷ []
+
+abbrev pub ResultsHold : Type 0
+ResultsHold = Hold results × Hold lengths
+
+-- Taints
+
+abbrev leaves : List ℕ → Start → (TaintedSnapshot → List ℕ) → List ℕ → Row
+leaves words s look about = row (tainted 1 words s) look e3 1 about
+
+-- R0 is a tainted 7, or R1 a tainted 6
+abbrev tainted0 : Start
+tainted0 = withTaintedR 0 7 start
+
+abbrev tainted1 : Start
+tainted1 = withTaintedR 1 6 start
+
+-- a register's or a cell's number, and then its taint
+unfoldable pub taintResults : List Row
+taintResults =
+    -- where an operand is: ADD, MUL, EQ, NEQ by op0 and by op1; NOT and MOV by op1
+    leaves (frame O.Add r1 (imm 1) r0) tainted1 (taintedRegisterAt 0) (7 ∷ 1 ∷ [])
+    ∷ leaves (frame O.Add (imm 1) r1 r0) tainted1 (taintedRegisterAt 0) (7 ∷ 1 ∷ [])
+    ∷ leaves (frame O.Add (imm 1) (imm 1) r0) tainted0 (taintedRegisterAt 0) (2 ∷ 0 ∷ [])
+    ∷ leaves (frame O.Mul r1 (imm 2) r0) tainted1 (taintedRegisterAt 0) (12 ∷ 1 ∷ [])
+    ∷ leaves (frame O.Mul (imm 2) r1 r0) tainted1 (taintedRegisterAt 0) (12 ∷ 1 ∷ [])
+    ∷ leaves (frame O.Eq (imm 2) r1 r0) tainted1 (taintedRegisterAt 0) (0 ∷ 1 ∷ [])
+    ∷ leaves (frame O.Eq (imm 2) (imm 2) r0) tainted0 (taintedRegisterAt 0) (1 ∷ 0 ∷ [])
+    ∷ leaves (frame O.Neq r1 (imm 2) r0) tainted1 (taintedRegisterAt 0) (1 ∷ 1 ∷ [])
+    ∷ leaves (frame O.Not Absent r1 r0) tainted1 (taintedRegisterAt 0) (0xFFFFFFFEFFFFFFFA ∷ 1 ∷ [])
+    ∷ leaves (frame O.Not Absent (imm 0) r0) tainted0 (taintedRegisterAt 0) (0xFFFFFFFF00000000 ∷ 0 ∷ [])
+    ∷ leaves (frame O.Mov Absent r1 r0) tainted1 (taintedRegisterAt 0) (6 ∷ 1 ∷ [])
+    ∷ leaves (frame O.Mov Absent (RegisterWithOffset 1 1) r0) tainted1 (taintedRegisterAt 0) (7 ∷ 1 ∷ [])
+    ∷ leaves (frame O.Mov Absent (RegisterWithFactor 1 2) r0) tainted1 (taintedRegisterAt 0) (12 ∷ 1 ∷ [])
+    -- immediates and PSP are unmarked, and so is what AND gives; R1 keeps its taint
+    ∷ leaves (frame O.Mov Absent (imm 5) r0) tainted0 (taintedRegisterAt 0) (5 ∷ 0 ∷ [])
+    ∷ leaves (frame O.Mov Absent Psp r0) tainted0 (taintedRegisterAt 0) (0xFFFFFFFE00000002 ∷ 0 ∷ [])
+    ∷ leaves (frame O.And (imm 5) (imm 5) r0) tainted0 (taintedRegisterAt 0) (5 ∷ 0 ∷ [])
+    ∷ leaves (frame O.Mov Absent (imm 5) r0) tainted1 (taintedRegisterAt 1) (6 ∷ 1 ∷ [])
+    -- MSTORE and MLOAD pass the mark on
+    ∷ leaves (frame O.Mstore (imm 1) (imm 2) r1) (withCell 2 5 tainted1) (taintedCellAt 3) (6 ∷ 1 ∷ [])
+    ∷ leaves (frame O.Mstore (imm 0) (imm 0) r0) (withTaintedCell 0 5 start) (taintedCellAt 0) (7 ∷ 0 ∷ [])
+    ∷ leaves (frame O.Mload (imm 0) (imm 0) r0) (withTaintedCell 0 5 start) (taintedRegisterAt 0) (5 ∷ 1 ∷ [])
+    ∷ leaves (frame O.Mload (imm 0) (imm 0) r0) (withCell 0 5 tainted0) (taintedRegisterAt 0) (5 ∷ 0 ∷ [])
+    -- RET's R9
+    ∷ leaves (frame O.Ret Absent Absent Absent) (withR 9 2 (withTaintedCell 0 5 (withCell 1 9 start))) (taintedRegisterAt 9) (5 ∷ 1 ∷ [])
+    ∷ leaves (frame O.Ret Absent Absent Absent) (withR 9 2 (withCell 0 5 (withCell 1 9 start))) (taintedRegisterAt 9) (5 ∷ 0 ∷ [])
+    -- tape values and return pcs are unmarked
+    ∷ leaves (frame O.Tload (imm 1) (imm 2) (imm 0)) (withTape (8 ∷ 9 ∷ []) (withTaintedCell 0 5 start)) (taintedCellAt 0) (8 ∷ 0 ∷ [])
+    ∷ leaves (frame O.Tload (imm 1) (imm 2) (imm 0)) (withTape (8 ∷ 9 ∷ []) (withTaintedCell 1 5 start)) (taintedCellAt 1) (9 ∷ 0 ∷ [])
+    ∷ leaves (frame O.Call Absent (imm 0) Absent) (withR 9 1 (withTaintedCell 0 5 start)) (taintedCellAt 0) (2 ∷ 0 ∷ [])
+    -- a cell that is stored before another: its taint moves with it
+    ∷ leaves (frame O.Mstore (imm 0) (imm 0) r0) (withTaintedCell 1 5 start) (taintedCellAt 1) (5 ∷ 1 ∷ [])
+    ∷ []
+
+abbrev pub TaintResultsHold : Type 0
+TaintResultsHold = Hold taintResults
+
+-- `solve` of refusals: the number in decimal; number 2's frame; zeros at entry
+
+-- document 01's listing without its END, with budget 0x64
+unfoldable pub listingWithoutEnd : List ℕ
+listingWithoutEnd =
+    bytes
+    "0000000000000064\n00000002000088040000000000000005\n0020080200009200\n0010000200008a0a0000000000000003\n000000000000091700000000000000030000000000000001\n"
+
+abbrev pub PrintsHold : Type 0
+PrintsHold =
+    (solve [] ≡ bytes "1 0 0 0 0\n")
+    × (solve (bytes "0000000000000001\nx\n") ≡ bytes "2 0 0 0 0 1\n")
+    -- the frame in shortest hexadecimal
+    × (solve (bytes "0000000000000001\n" ++ (endLines 15 ++ bytes "x\n")) ≡ bytes "2 0 0 0 0 10\n")
+    × (printed (plainBudgetText (bytes "0000000000000001\n000000000000000b\n") (snapshot (withClk 1000000000000 start))) ≡ bytes "3 0 0 0 0\n")
+    -- a step's refusal: steps, pc, clk, kilosteps, and the output so far
+    × (solve listingWithoutEnd ≡ bytes "4 4 7 4 0\na\n")
+    × (solve (bytes "0000000000000001\n000000000000080c0000000100000000\n") ≡ bytes "10 0 0 0 0\n")
+    -- budget 0
+    × (solve (bytes "0000000000000000\n000000000000000b\n") ≡ bytes "e3 0 0 0 0\n")
