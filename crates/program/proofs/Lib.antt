@@ -7,5 +7,6 @@ pub mod Decoding
 pub mod Packing
 pub mod Starts
 pub mod Loading
+pub mod Checking
 pub mod Laying
 pub mod Fetching

@@ -101,3 +101,9 @@ sink-answer a h = meaning-injective a A.TaintedSink (h ∙ sym sink-meaning)
 pub refusal-not-sink : (f : Refusal) → refusalMeaning f ≡ refusal 18 [] → ⊥
 unfolding meaning
 refusal-not-sink f h = let e : A.Refused f ≡ A.TaintedSink = sink-answer (A.Refused f) h in let z : _≡_ {A = ℕ} 0 1 = cc in omega arith
+
+-- refusal 2
+
+pub malformed-refusal : (f : Refusal) (n : ℕ) → refusalMeaning f ≡ refusal 2 (n ∷ []) → f ≡ R.MalformedFrame n
+unfolding meaning refusalMeaning
+malformed-refusal f n h = let e : A.Refused f ≡ A.Refused (R.MalformedFrame n) = meaning-injective (A.Refused f) (A.Refused (R.MalformedFrame n)) h in cc

@@ -12,7 +12,7 @@ use Rattle.rules.specs.declared.Refusal.the-variants.{BadLength, Malform
 use Rattle.rules.specs.Numbers.{textLimit}
 use Rattle.rules.specs.Results.{Result, refuse, pass, require}
 use Rattle.rules.specs.Frames.{framesAfter, isMalformed, anyOf, reportedFrame, Reported, this, later, countFits, loadFrames, loadWords}
-use Rattle.rules.specs.Text.{Line, linesOf, frameOfLine, loadText, Job, isNotHex, budgetOf, loadJob, loadBudgetText}
+use Rattle.rules.specs.Text.{Line, linesOf, frameOfLine, loadText, loadJob, loadBudgetText}
 use Rattle.rules.specs.MalformedFrames.{malformedWords, malformedLines, malformedJob, ReportsMalformed}
 use Rattle.rules.proofs.BoolLaws.{false-true}
 

@@ -16,22 +16,24 @@ pub mod Answers
 pub mod Entry
 pub mod Calls
 pub mod Solve
+-- statements about them: the frame of refusal 2, demand 3, the plain map, soundness
 pub mod MalformedFrames
 pub mod TaintRules
 pub mod SinkRules
 pub mod NonInterference
+pub mod Witnesses
 pub mod Relations
 pub mod MapAgreement
-pub mod Encoding
-pub mod Rows
-pub mod Cases
-pub mod RefusalOrder
-pub mod StoreOrder
-pub mod SinkOrder
-pub mod EntryRefusals
-pub mod StepRefusals
-pub mod StepCases
 pub mod Soundness
 pub mod Resumption
 pub mod SplitCalls
-pub mod Witnesses
+-- tables of cases
+pub mod Encoding
+pub mod Rows
+pub mod Cases
+pub mod StepCases
+pub mod EntryRefusals
+pub mod StepRefusals
+pub mod RefusalOrder
+pub mod StoreOrder
+pub mod SinkOrder
