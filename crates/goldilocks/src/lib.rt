@@ -1,7 +1,7 @@
 // The Goldilocks field. Its elements are the numbers below the prime p = 2^64 - 2^32 + 1.
 //
-// Public, for any numbers: `GoldilocksField::from_canonical_u64`, and the functions `add`, `mul` and `complement`.
-// Internal: the methods `add`, `mul` and `complement` of `GoldilocksField`, for callers that hold elements and do not test them again.
+// Public, for any numbers: `GoldilocksField::from_canonical_u64`, and the functions `add`, `mul` and `complement`. The methods of the
+// same names are the crate's own, for elements that were tested.
 mod wide;
 
 use wide::Wide;
@@ -38,7 +38,7 @@ impl GoldilocksField {
         }
     }
 
-    pub fn add(self, other: GoldilocksField) -> GoldilocksField
+    pub(crate) fn add(self, other: GoldilocksField) -> GoldilocksField
         requires { ⌜ (self .value < p) × (other .value < p) ⌝ }
         ensures { λ r. ⌜ r .value ≡ fieldAdd (self .value) (other .value) ⌝ }
     {
@@ -55,7 +55,7 @@ impl GoldilocksField {
     }
 
     // Right for values that are no elements too.
-    pub fn mul(self, other: GoldilocksField) -> GoldilocksField
+    pub(crate) fn mul(self, other: GoldilocksField) -> GoldilocksField
         ensures { λ r. ⌜ r .value ≡ fieldMul (self .value) (other .value) ⌝ }
     {
         GoldilocksField {
@@ -64,7 +64,7 @@ impl GoldilocksField {
     }
 
     // What NOT gives.
-    pub fn complement(self) -> GoldilocksField
+    pub(crate) fn complement(self) -> GoldilocksField
         requires { ⌜ self .value < p ⌝ }
         ensures { λ r. ⌜ r .value ≡ fieldComplement (self .value) ⌝ }
     {
