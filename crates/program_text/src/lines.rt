@@ -1,5 +1,6 @@
 // Lines of a text, each ended by a line feed.
 use hexadecimal::word;
+use program::binary_program::FRAME_LIMIT;
 use program::binary_program::frame_length;
 use rules::HexWord;
 use rules::Refusal;
@@ -59,7 +60,7 @@ pub(crate) fn malformed(text: &[u8], next: usize, number: usize) -> Refusal
     requires { ⌜ (next ≤ length (now text)) × (number ≤ 512) ⌝ }
     ensures { λ r. ⌜ r ≡ choose (leb (number + length (linesOf (drop next (now (text .entry))))) 512) (MalformedFrame number) BadLength ⌝ }
 {
-    if more_lines(text, next, 512 - number) {
+    if more_lines(text, next, FRAME_LIMIT - number) {
         return Refusal::BadLength;
     }
     Refusal::MalformedFrame(number as u64)

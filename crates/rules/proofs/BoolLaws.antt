@@ -1,4 +1,4 @@
--- What a conjunction or a disjunction of tests says of each of them.
+-- What a conjunction or a disjunction of tests says of each of them, and back.
 use Prim.Native.Nat.{ℕ}
 use mathlib.Core.Path.{_≡_, refl, sym, ap, _∙_}
 use mathlib.Core.Bool.{Bool, true, false, _&&_, _||_}
@@ -25,3 +25,28 @@ or-left false b e = refl
 pub or-right : (a b : Bool) → (a || b) ≡ false → b ≡ false
 or-right true b e = absurd (false-true (sym e))
 or-right false b e = e
+
+pub and-equal : {a b c d : Bool} → a ≡ b → c ≡ d → (a && c) ≡ (b && d)
+and-equal {b = b} {c} e f = ap (λ x. x && c) e ∙ ap (λ x. b && x) f
+
+pub and-with-true : (b : Bool) → (b && true) ≡ b
+and-with-true true = refl
+and-with-true false = refl
+
+pub and-with-false : (b : Bool) → (b && false) ≡ false
+and-with-false true = refl
+and-with-false false = refl
+
+pub or-equal : {a b c d : Bool} → a ≡ b → c ≡ d → (a || c) ≡ (b || d)
+or-equal {b = b} {c} e f = ap (λ x. x || c) e ∙ ap (λ x. b || x) f
+
+pub or-first : {a : Bool} (b : Bool) → a ≡ true → (a || b) ≡ true
+or-first b e = ap (λ x. x || b) e
+
+pub or-second : (a : Bool) {b : Bool} → b ≡ true → (a || b) ≡ true
+or-second true e = refl
+or-second false e = e
+
+pub or-case : {X : Type 0} (a b : Bool) → (a || b) ≡ true → (a ≡ true → X) → (b ≡ true → X) → X
+or-case true b h f g = f refl
+or-case false b h f g = g h

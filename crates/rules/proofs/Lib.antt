@@ -8,6 +8,7 @@ pub mod AnswerLaws
 pub mod CellLaws
 pub mod OverlayLaws
 pub mod EntryLaws
+pub mod FirstWords
 pub mod DecodedRegisters
 pub mod MalformedReported
 pub mod Relational

@@ -15,14 +15,13 @@ use Rattle.rules.specs.Step.{Environment, State, Next, fits, capacity, R
 use Rattle.rules.specs.Taint.{operandTaint, sinksOf, operandSink, Taints, readSink, taintsAfter, TaintedState, TaintedNext, taintedRest, taintedStep, onTaintedStep, taintedRun}
 use Rattle.rules.specs.Relations.{passed, BothTainted, refused-alike, sink-alike, passed-alike, BothRan}
 use Rattle.rules.proofs.Relational.{both-equal, both-require, both-after, both-finish}
-use Rattle.rules.proofs.BoolLaws.{or-left, or-right}
+use Rattle.rules.proofs.BoolLaws.{or-left, or-right, or-equal}
 use Rattle.rules.proofs.LowStates.{StatesRelated, NextRelated, mod-below, untainted, cells-count}
 use Rattle.rules.proofs.LowSteps.{
   OperandsRelated,
   operands-read,
   Agreed,
   operands-equal,
-  or-both,
   on-field,
   on-equality,
   on-small,
@@ -114,7 +113,7 @@ module _ (e : Environment) (t : Taints (cells ℕ)) (i : Instruction) {s u : Sta
   agreed (small f) l {o} r k =
       let a : tainted0 ≡ false = or-left _ _ k in
       let b : tainted1 ≡ false = or-left _ _ (or-right tainted0 _ k) in
-      same-operands (small f) (on-small e t i n f o (or-both a b)) (untainted a (r .op0)) (untainted b (r .op1)) (untainted refl (r .dst))
+      same-operands (small f) (on-small e t i n f o (or-equal a b)) (untainted a (r .op0)) (untainted b (r .op1)) (untainted refl (r .dst))
   agreed complement l r k = on-complement e t i n r
   agreed move l r k = on-move e t i n r
   agreed assert l {o} r k =

@@ -1,7 +1,7 @@
 -- Low-equivalent snapshots: the states that they stand for are related, and related states leave low-equivalent snapshots.
 use Prim.Native.Nat.{ℕ, zero, suc, _+_, _≤_, _<_, min}
 use mathlib.Core.Path.{_≡_, refl, sym, ap, subst, _∙_}
-use mathlib.Core.Bool.{Bool, true, false, _&&_}
+use mathlib.Core.Bool.{Bool, true, false}
 use mathlib.Core.List.{List, [], _∷_, map}
 use native.Mathlib.Omega.{arith}
 use lib.Dec.{leb, eqb}
@@ -15,6 +15,7 @@ use Rattle.rules.specs.Step.{State, isStorable, overlay}
 use Rattle.rules.specs.Taint.{Taints}
 use Rattle.rules.specs.Entry.{TaintedSnapshot, usedAddresses, usedNumbers, usedTaints, lowBits, wordOfBits, taintedRegisters, taintedCells, every, risingFrom, all, plainEntry, taintedNumbersBelow, taintEntry, taintedEntry, stateOf, taintedStateOf, taintedSnapshotAfter}
 use Rattle.rules.specs.NonInterference.{TaintedBelow, EqualUnless, Agree, LowEquivalent}
+use Rattle.rules.proofs.BoolLaws.{and-equal}
 use Rattle.rules.proofs.CellLaws.{length-addresses, length-contents}
 use Rattle.rules.proofs.EntryLaws.{all-at, taintedBelow-of, lowBits-word}
 use Rattle.rules.proofs.OverlayLaws.{used-overlay, take-overlay}
@@ -84,9 +85,6 @@ tainted-below g b =
     let y = taintedBelow-of (taintedCells g) (usedNumbers (g .plain)) (b .cells) in
     rw (x, y)
 
-both-tests : {a b c d : Bool} → a ≡ b → c ≡ d → (a && c) ≡ (b && d)
-both-tests {b = b} {c} x y = ap (λ z. z && c) x ∙ ap (λ z. b && z) y
-
 suc-injective : {a b : ℕ} → suc a ≡ suc b → a ≡ b
 suc-injective h = omega arith
 
@@ -105,7 +103,7 @@ every-storable : (l : List Bool) (v w : List ℕ) → length v ≡ length w → 
 every-storable l [] [] e h = refl
 every-storable l [] (y ∷ w) e h = absurd (omega arith)
 every-storable l (x ∷ v) [] e h = absurd (omega arith)
-every-storable l (x ∷ v) (y ∷ w) e h = both-tests (related-storable (h 0)) (every-storable (rest l) v w (suc-injective e) (rest-places l x y v w h))
+every-storable l (x ∷ v) (y ∷ w) e h = and-equal (related-storable (h 0)) (every-storable (rest l) v w (suc-injective e) (rest-places l x y v w h))
 
 same-used : {R : Bool → ℕ → ℕ → Type 0} {g h : TaintedSnapshot} → Agree R g h → length (usedNumbers (g .plain)) ≡ length (usedNumbers (h .plain))
 same-used {g = g} {h} al =

@@ -143,9 +143,6 @@ complement-below n = let h : 1 < p = one-below in omega arith
 pub operands-equal : {o q : Operands} → o .op0 ≡ q .op0 → o .op1 ≡ q .op1 → o .dst ≡ q .dst → o ≡ q
 operands-equal a b c = λ i. record { op0 = a i; op1 = b i; dst = c i }
 
-pub or-both : {a b : Bool} → a ≡ false → b ≡ false → (a || b) ≡ false
-or-both {a} {b} h k = rw (h, k)
-
 overlay-longer : (a b : List ℕ) → length a ≤ length (overlay a b)
 overlay-longer a b = rw length-append (omega arith)
 

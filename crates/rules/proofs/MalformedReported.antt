@@ -1,11 +1,12 @@
 -- Refusal 2 carries the number of a malformed frame.
 use Prim.Native.Nat.{ℕ, suc}
-use mathlib.Core.Path.{_≡_, refl, sym, subst}
+use mathlib.Core.Path.{_≡_, refl, subst}
 use mathlib.Core.Bool.{Bool, true, false, not}
 use mathlib.Core.List.{List, [], _∷_, map}
 use native.Mathlib.Omega.{arith}
 use lib.Dec.{leb}
 use lib.ListN.{length}
+use borrow.Author.Tests.{not-false}
 use Rattle.rules.specs.declared.Frame.{Frame}
 use Rattle.rules.specs.declared.Refusal.{Refusal}
 use Rattle.rules.specs.declared.Refusal.the-variants.{BadLength, MalformedFrame}
@@ -34,10 +35,6 @@ length-is-not h = absurd (let z : _≡_ {A = ℕ} 0 1 = cc in omega arith)
 
 pass-is-not : {A X : Type 0} {a : A} {g : Refusal} → pass a ≡ refuse g → X
 pass-is-not h = absurd (let z : _≡_ {A = ℕ} 0 1 = cc in omega arith)
-
-not-false : (b : Bool) → not b ≡ false → b ≡ true
-not-false true h = refl
-not-false false h = sym h
 
 -- the test of form, of numbered frames
 by-form : {A : Type 0} (first : ℕ) (bs : List Bool) (a : A) {n : ℕ} → require (not (anyOf bs)) (MalformedFrame (reportedFrame first bs)) (pass a) ≡ refuse (MalformedFrame n)

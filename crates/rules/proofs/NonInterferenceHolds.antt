@@ -1,7 +1,7 @@
 -- Demand 3, proved, for each tainted call: bare words, text, text with a budget line.
 use Prim.Native.Nat.{ℕ, _<_}
 use mathlib.Core.Path.{_≡_, refl, sym, ap, subst, _∙_}
-use mathlib.Core.Bool.{Bool, true, false, _&&_}
+use mathlib.Core.Bool.{Bool, true, false}
 use mathlib.Core.List.{List}
 use Rattle.rules.specs.declared.Instruction.{Instruction}
 use Rattle.rules.specs.declared.Refusal.{Refusal}
@@ -21,6 +21,7 @@ use Rattle.rules.specs.Relations.{BothRan}
 use Rattle.rules.specs.TaintRules.{Place, register, cell, Tainting}
 use Rattle.rules.specs.SinkRules.{Comes}
 use Rattle.rules.specs.NonInterference.{TaintedBelow, LowEquivalent, SameCalls, MeetsSink, SinkAfter, untainted, pausedAfter, startTaints, Reaches, reaches, Untainted, NonInterference}
+use Rattle.rules.proofs.BoolLaws.{and-with-true, and-with-false}
 use Rattle.rules.proofs.AnswerLaws.{paused-meaning, sink-meaning, sink-answer, refusal-not-sink}
 use Rattle.rules.proofs.EntryLaws.{all-at}
 use Rattle.rules.proofs.DecodedRegisters.{LoadedInRange, loadWords-in-range, loadText-in-range, loadBudgetText-in-range}
@@ -85,11 +86,7 @@ calls-same (pass program) budget g h al b c =
 
 entry-split : (g : TaintedSnapshot) → taintEntry g ≡ true → taintedEntry g ≡ plainEntry (g .plain)
 unfolding taintedEntry all
-entry-split g t = rw t (go (plainEntry (g .plain)))
-  where
-    go : (b : Bool) → (b && true) ≡ b
-    go true = refl
-    go false = refl
+entry-split g t = rw t (and-with-true (plainEntry (g .plain)))
 
 entry-plain : (g : TaintedSnapshot) → taintedEntry g ≡ true → plainEntry (g .plain) ≡ true
 unfolding taintedEntry
@@ -97,11 +94,7 @@ entry-plain g t = all-at _ t 0
 
 entry-unfit : (g : TaintedSnapshot) → taintEntry g ≡ false → taintedEntry g ≡ false
 unfolding taintedEntry all
-entry-unfit g t = rw t (go (plainEntry (g .plain)))
-  where
-    go : (b : Bool) → (b && false) ≡ false
-    go true = refl
-    go false = refl
+entry-unfit g t = rw t (and-with-false (plainEntry (g .plain)))
 
 module _ (program : List Instruction) (budget : ℕ) (g : TaintedSnapshot) where
   call-run : taintedEntry g ≡ true → taintedCall (pass program) budget g ≡ taintedAnswered g (taintedRunOf program budget g)

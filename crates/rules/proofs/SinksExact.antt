@@ -54,22 +54,11 @@ use Rattle.rules.specs.SinkRules.{
   operand,
   reading,
 }
-use Rattle.rules.proofs.BoolLaws.{false-true}
+use Rattle.rules.proofs.BoolLaws.{false-true, or-first, or-second, or-case}
 use Rattle.rules.proofs.ResultLaws.{require-pass, bind-pass, pass-require, pass-bind, after-step, after-sink, guard-sink, sink-guard}
 use Rattle.rules.proofs.TaintsFollow.{taintingOf, operand-taint}
 
 -- Tests and operands
-
-or-first : {a : Bool} (b : Bool) → a ≡ true → (a || b) ≡ true
-or-first b h = rw h
-
-or-second : (a : Bool) {b : Bool} → b ≡ true → (a || b) ≡ true
-or-second true h = refl
-or-second false h = h
-
-or-case : {X : Type 0} (a b : Bool) → (a || b) ≡ true → (a ≡ true → X) → (b ≡ true → X) → X
-or-case true b h f g = f refl
-or-case false b h f g = g h
 
 never : {X : Type 0} → false ≡ true → X
 never h = absurd (false-true h)

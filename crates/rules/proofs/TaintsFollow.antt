@@ -63,6 +63,7 @@ use Rattle.rules.specs.TaintRules.{
   return-pc,
   kept,
 }
+use Rattle.rules.proofs.BoolLaws.{or-equal}
 use Rattle.rules.proofs.ResultLaws.{refuse-pass, pass-injective, bind-pass}
 use Rattle.rules.proofs.DecodedRegisters.{RegisterInRange, RegistersInRange}
 use Rattle.rules.proofs.WrittenPlaces.{
@@ -330,9 +331,6 @@ module _ (t : Taints (cells ℕ)) (i : Instruction) (s : State (cells ℕ)) (o :
   ret-bound (proper-one g q l) = elim g [ ]
   ret-bound (proper-ret l) = l
   ret-bound (proper-nothing n) = elim n [ ]
-
-  or-equal : {a b c d : Bool} → a ≡ b → c ≡ d → (a || c) ≡ (b || d)
-  or-equal {b = b} {c} h k = ap (λ x. x || c) h ∙ ap (λ x. b || x) k
 
   follows-computed : {c : OlaOpcode} {x : Place} {b : Bool} → Proper t i o c → Rules c x b → after c x ≡ b
   unfolding taintsAfter classOf

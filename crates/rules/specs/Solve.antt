@@ -6,6 +6,7 @@ use lib.Dec.{ltb, leb}
 use lib.ListN.{replicate}
 use Rattle.rules.specs.Numbers.{defaultPsp, cellLimit, valueLimit, choose}
 use Rattle.rules.specs.Hexadecimal.{shortestHex}
+use Rattle.rules.specs.Text.{lineFeed}
 use Rattle.rules.specs.Answers.{Meaning, outcome, refusal}
 use Rattle.rules.specs.Entry.{Snapshot, usedOutput}
 use Rattle.rules.specs.Calls.{Called, plainBudgetText}
@@ -14,15 +15,12 @@ use Rattle.rules.specs.Calls.{Called, plainBudgetText}
 unfoldable pub kilosteps : ℕ → ℕ
 kilosteps clk = (clk + 500) / 1000
 
--- 'e', ' ' and a line feed
+-- 'e' and ' '
 abbrev letterE : ℕ
 letterE = 101
 
 abbrev space : ℕ
 space = 32
-
-abbrev lineFeed : ℕ
-lineFeed = 10
 
 -- a number below 100 in decimal
 unfoldable pub decimal : ℕ → List ℕ
@@ -35,7 +33,7 @@ unfoldable pub valueLines : List ℕ → List ℕ
 valueLines [] = []
 valueLines (v ∷ vs) = (shortestHex v ++ (lineFeed ∷ [])) ++ valueLines vs
 
--- steps, pc, clk, kilosteps; and the output's values
+-- steps, pc, clk, kilosteps
 abbrev pub stateFields : Called Snapshot → List ℕ
 stateFields c =
     field (c .steps) ++ (field (c .left .machine .pc) ++ (field (c .left .machine .clk) ++ field (kilosteps (c .left .machine .clk))))
