@@ -1,0 +1,211 @@
+-- Cells in buffers, in the words of the contracts: what is found, where a span stands, what has capacity, what is read and what is stored.
+use Prim.Native.Nat.{ℕ, suc, _+_, _-_, _≤_, _<_}
+use mathlib.Core.Path.{_≡_, refl, sym, ap, subst, _∙_}
+use mathlib.Core.Bool.{Bool, true, false}
+use mathlib.Core.List.{List}
+use native.Mathlib.Omega.{arith}
+use lib.Dec.{leb, eqb}
+use lib.ListN.{length, getD, take}
+use lib.Seq.{length-take-le, getD-take}
+use borrow.Author.Tests.{leb-true, leb-false, le-leb, lt-leb}
+use Rattle.rules.specs.Numbers.{choose, bit}
+use Rattle.rules.specs.Memory.{absent, present}
+use Rattle.rules.specs.Cells.{get, put, count, addresses, contents}
+use Rattle.rules.specs.Step.{overlay}
+use Rattle.rules.specs.Entry.{risingFrom}
+use Rattle.rules.proofs.CellLaws.{length-addresses, addresses-zipped, contents-zipped}
+use Rattle.hardware.specs.declared.cells.Found.{Found}
+use Rattle.hardware.specs.declared.cells.Found.the-variants as Found
+use Rattle.hardware.specs.declared.cells.Cell.the-variants as Cell
+use Rattle.hardware.specs.declared.cells.Span.the-variants as Span
+use Rattle.hardware.specs.Buffers.{rank, has, foundOf, hasAll, spanOf, missing, cellsOf, cellOf, Rising, Ordered, Holding}
+use Rattle.hardware.specs.Places.{keepOf, growOf, Within}
+use Rattle.hardware.proofs.RankLaws.{rank-length, rank-mono, has-at, has-none, last-there, there-last, missing-ranks, missing-most}
+use Rattle.hardware.proofs.SpanLaws.{absent-get, present-get}
+use Rattle.hardware.proofs.PlaceLaws.{found-at, found-absent, found-below, put-addresses, put-contents, found-within}
+
+-- Searches
+
+module _ (n : ℕ) (xs : List ℕ) (o : Rising n xs) (a i : ℕ) (e : i ≡ rank (take n xs) a) where
+  used : length (take n xs) ≡ n
+  used = length-take-le n xs (o .within)
+
+  pub rank-used : i ≤ n
+  rank-used = let k : length (take n xs) ≡ n = used in let h : rank (take n xs) a ≤ length (take n xs) = rank-length (take n xs) a in omega arith
+
+  pub found-present : i < n → getD xs i 0 ≡ a → Found.At i ≡ foundOf (take n xs) a
+  found-present h g =
+      let k : length (take n xs) ≡ n = used in
+      rw (has-at (take n xs) a i (omega arith) (getD-take n xs i 0 h ∙ g)) (ap Found.At e)
+
+  absent-found : (rank (take n xs) a < n → getD (take n xs) (rank (take n xs) a) 0 ≡ a → ⊥) → Found.Absent i ≡ foundOf (take n xs) a
+  absent-found f = rw (has-none (take n xs) a (o .rises) (λ h. f (subst (λ (k : ℕ). rank (take n xs) a < k) used h))) (ap Found.Absent e)
+
+  pub found-other : i < n → (getD xs i 0 ≡ a → ⊥) → Found.Absent i ≡ foundOf (take n xs) a
+  found-other h f = absent-found (λ _ g. f (sym (getD-take n xs i 0 h) ∙ ap (λ (k : ℕ). getD (take n xs) k 0) e ∙ g))
+
+  pub found-end : n ≤ i → Found.Absent i ≡ foundOf (take n xs) a
+  found-end h = absent-found (λ k _. omega arith)
+
+  pub span-none : (m : ℕ) → m ≡ 0 → Span.At i ≡ spanOf (take n xs) a m
+  span-none m z = rw z (ap Span.At e)
+
+  absent-span : (m : ℕ) → (hasAll (take n xs) a m ≡ true → ⊥) → Span.Absent ≡ spanOf (take n xs) a m
+  absent-span m f = go (hasAll (take n xs) a m) refl
+    where
+      go : (t : Bool) → hasAll (take n xs) a m ≡ t → Span.Absent ≡ choose t (Span.At (rank (take n xs) a)) Span.Absent
+      go true h = absurd (f h)
+      go false h = refl
+
+  -- where all of a span are there, its last is
+  last-of : (m : ℕ) → 0 < m → hasAll (take n xs) a m ≡ true → (i + (m - 1) < n) × (getD xs (i + (m - 1)) 0 ≡ a + (m - 1))
+  last-of m p h =
+      let s : m ≡ suc (m - 1) = omega arith in
+      let f = there-last (take n xs) a (m - 1) (i + (m - 1)) (o .rises) (omega arith) (subst (λ (m : ℕ). hasAll (take n xs) a m ≡ true) s h) in
+      let k : i + (m - 1) < n = subst (λ (k : ℕ). i + (m - 1) < k) used (f .0) in
+      (k, sym (getD-take n xs (i + (m - 1)) 0 k) ∙ f .1)
+
+  pub span-short : (m : ℕ) → (m ≡ 0 → ⊥) → n - i < m → Span.Absent ≡ spanOf (take n xs) a m
+  span-short m z l = absent-span m (λ h. let k : i + (m - 1) < n = last-of m (omega arith) h .0 in omega arith)
+
+  pub span-other : (m : ℕ) → (m ≡ 0 → ⊥) → (getD xs (i + (m - 1)) 0 ≡ a + (m - 1) → ⊥) → Span.Absent ≡ spanOf (take n xs) a m
+  span-other m z f = absent-span m (λ h. f (last-of m (omega arith) h .1))
+
+  pub span-present : (m : ℕ) → (m ≡ 0 → ⊥) → m ≤ n - i → getD xs (i + (m - 1)) 0 ≡ a + (m - 1) → Span.At i ≡ spanOf (take n xs) a m
+  span-present m z l g =
+      let s : suc (m - 1) ≡ m = omega arith in
+      let k : i + (m - 1) < n = omega arith in
+      let u : length (take n xs) ≡ n = used in
+      rw (subst (λ (m : ℕ). hasAll (take n xs) a m ≡ true) s (last-there (take n xs) a (m - 1) (i + (m - 1)) (o .rises) (omega arith) (omega arith) (getD-take n xs (i + (m - 1)) 0 k ∙ g)))
+      (ap Span.At e)
+
+pub place-below : (n : ℕ) (xs : List ℕ) → Rising n xs → (a i : ℕ) → foundOf (take n xs) a ≡ Found.At i → i < n
+place-below n xs o a i f = subst (λ (k : ℕ). i < k) (length-take-le n xs (o .within)) (found-below (take n xs) a i (o .rises) f)
+
+-- Capacity
+
+module _ (n : ℕ) (xs : List ℕ) (o : Rising n xs) (a m : ℕ) where
+  pub capacity-for-all : m ≤ length xs - n → true ≡ leb (n + missing (take n xs) a m) (length xs)
+  capacity-for-all h =
+      let k : missing (take n xs) a m ≤ m = missing-most (take n xs) a m in
+      let w : n ≤ length xs = o .within in
+      sym (le-leb (n + missing (take n xs) a m) (length xs) (omega arith))
+
+  module _ (low high : ℕ) (e : low ≡ rank (take n xs) a) (f : high ≡ rank (take n xs) (a + m)) where
+    pub ranks-rise : low ≤ high
+    ranks-rise = let k : rank (take n xs) a ≤ rank (take n xs) (a + m) = rank-mono (take n xs) a (a + m) (omega arith) in omega arith
+
+    -- those between the ranks are present
+    new-cells : m ≡ missing (take n xs) a m + (high - low)
+    new-cells =
+        let k : missing (take n xs) a m + rank (take n xs) (a + m) ≡ m + rank (take n xs) a = missing-ranks (take n xs) a m (a + m) (o .rises) refl in
+        let l : low ≤ high = ranks-rise in
+        omega arith
+
+    pub ranks-within : high - low ≤ m
+    ranks-within = let k : m ≡ missing (take n xs) a m + (high - low) = new-cells in omega arith
+
+    pub capacity-for-new : leb (m - (high - low)) (length xs - n) ≡ leb (n + missing (take n xs) a m) (length xs)
+    capacity-for-new = go (leb (n + missing (take n xs) a m) (length xs)) refl
+      where
+        go : (t : Bool) → leb (n + missing (take n xs) a m) (length xs) ≡ t → leb (m - (high - low)) (length xs - n) ≡ t
+        go true h =
+            let k : n + missing (take n xs) a m ≤ length xs = leb-true _ _ h in
+            let q : m ≡ missing (take n xs) a m + (high - low) = new-cells in
+            le-leb (m - (high - low)) (length xs - n) (omega arith)
+        go false h =
+            let k : length xs < n + missing (take n xs) a m = leb-false _ _ h in
+            let q : m ≡ missing (take n xs) a m + (high - low) = new-cells in
+            let w : n ≤ length xs = o .within in
+            lt-leb (m - (high - low)) (length xs - n) (omega arith)
+
+-- A buffer of contents beside the addresses
+
+module _ (n : ℕ) (xs bs : List ℕ) (o : Rising n xs) (l : length bs ≡ length xs) where
+  levels : length (take n xs) ≡ length (take n bs)
+  levels = let w : n ≤ length xs = o .within in length-take-le n xs w ∙ sym (length-take-le n bs (omega arith))
+
+  pub addresses-of : addresses (cellsOf n xs bs) ≡ take n xs
+  addresses-of = let k : length (take n xs) ≡ length (take n bs) = levels in addresses-zipped (take n xs) (take n bs) (omega arith)
+
+  pub contents-of : contents (cellsOf n xs bs) ≡ take n bs
+  contents-of = contents-zipped (take n xs) (take n bs) levels
+
+  pub rises-of : risingFrom 0 (addresses (cellsOf n xs bs)) ≡ true
+  rises-of = ap (risingFrom 0) addresses-of ∙ o .rises
+
+  -- one that is found
+
+  pub get-found : (a i : ℕ) → foundOf (take n xs) a ≡ Found.At i → get (cellsOf n xs bs) a ≡ present (getD bs i 0)
+  get-found a i f =
+      let q = found-at (take n xs) a i f in
+      present-get 0 (cellsOf n xs bs) a rises-of (ap (λ (l : List ℕ). has l a) addresses-of ∙ q .0)
+      ∙ ap present (ap (λ (l : List ℕ). getD l (rank (addresses (cellsOf n xs bs)) a) 0) contents-of
+      ∙ ap (λ (k : ℕ). getD (take n bs) k 0) (ap (λ (l : List ℕ). rank l a) addresses-of ∙ q .1)
+      ∙ getD-take n bs i 0 (place-below n xs o a i f))
+
+  pub get-absent : (a i : ℕ) → foundOf (take n xs) a ≡ Found.Absent i → get (cellsOf n xs bs) a ≡ absent
+  get-absent a i f = absent-get (cellsOf n xs bs) a (ap (λ (l : List ℕ). has l a) addresses-of ∙ found-absent (take n xs) a i f .0)
+
+  -- one that is stored
+
+  pub addresses-stored : (a v : ℕ) → addresses (put (cellsOf n xs bs) a v) ≡ growOf (foundOf (take n xs) a) a (take n xs)
+  addresses-stored a v =
+      put-addresses 0 (cellsOf n xs bs) a v rises-of ∙ ap (λ (l : List ℕ). growOf (foundOf l a) a l) addresses-of
+
+  pub contents-stored : (a v : ℕ) → contents (put (cellsOf n xs bs) a v) ≡ keepOf (foundOf (take n xs) a) v (take n bs)
+  contents-stored a v =
+      put-contents 0 (cellsOf n xs bs) a v rises-of
+      ∙ ap (λ (l : List ℕ). keepOf (foundOf l a) v (contents (cellsOf n xs bs))) addresses-of
+      ∙ ap (λ (l : List ℕ). keepOf (foundOf (take n xs) a) v l) contents-of
+
+  pub store-within : (a v : ℕ) → count (put (cellsOf n xs bs) a v) ≤ length xs → (f : Found) → f ≡ foundOf (take n xs) a → (k : ℕ) → k ≡ length xs
+      → Within f n k
+  store-within a v h f e k q =
+      let u : length (take n xs) ≡ n = length-take-le n xs (o .within) in
+      let g : length (growOf (foundOf (take n xs) a) a (take n xs)) ≡ count (put (cellsOf n xs bs) a v) =
+      sym (ap length (addresses-stored a v)) ∙ length-addresses (put (cellsOf n xs bs) a v) in
+      let w : n ≤ length xs = o .within in
+      let i : Within (foundOf (take n xs) a) n k =
+      subst (λ (m : ℕ). Within (foundOf (take n xs) a) m k) u (found-within (take n xs) a k (o .rises) (omega arith) (omega arith)) in
+      subst (λ (f : Found). Within f n k) (sym e) i
+
+-- What is read
+
+module _ (tainted : Bool) (n : ℕ) (xs ns ts : List ℕ) (o : Ordered tainted n xs ns ts) (a i : ℕ) where
+  pub read-tainted : foundOf (take n xs) a ≡ Found.At i → tainted ≡ true
+      → Cell.Present (getD ns i 0) (eqb (getD ts i 0) 1) ≡ cellOf tainted (cellsOf n xs ns) (cellsOf n xs ts) a
+  read-tainted f t =
+      rw (t, get-found n xs ns (o .addresses) (o .level) a i f, get-found n xs ts (o .addresses) (o .taintLevel t) a i f)
+
+  pub read-plain : foundOf (take n xs) a ≡ Found.At i → tainted ≡ false
+      → Cell.Present (getD ns i 0) tainted ≡ cellOf tainted (cellsOf n xs ns) (cellsOf n xs ts) a
+  read-plain f t = rw (t, get-found n xs ns (o .addresses) (o .level) a i f)
+
+  pub read-absent : foundOf (take n xs) a ≡ Found.Absent i → Cell.Absent ≡ cellOf tainted (cellsOf n xs ns) (cellsOf n xs ts) a
+  read-absent f = rw (get-absent n xs ns (o .addresses) (o .level) a i f)
+
+-- What is stored
+
+module _ (tainted : Bool) (n : ℕ) (xs ns ts : List ℕ) (o : Ordered tainted n xs ns ts) (a v : ℕ) (t : Bool) (f : Found) (e : f ≡ foundOf (take n xs) a) where
+  taints-stored : (s : Bool) → tainted ≡ s
+      → choose s (overlay (keepOf f (bit t) (take n ts)) ts) ts ≡ choose s (overlay (contents (put (cellsOf n xs ts) a (bit t))) ts) ts
+  taints-stored true q =
+      ap (λ (l : List ℕ). overlay l ts)
+      (ap (λ (f : Found). keepOf f (bit t) (take n ts)) e ∙ sym (contents-stored n xs ts (o .addresses) (o .taintLevel q) a (bit t)))
+  taints-stored false q = refl
+
+  pub store-holds : (r : ℕ) (xs′ ns′ ts′ : List ℕ) → (r ≡ length (growOf f a (take n xs))) × (xs′ ≡ overlay (growOf f a (take n xs)) xs)
+      → ns′ ≡ overlay (keepOf f v (take n ns)) ns → ts′ ≡ choose tainted (overlay (keepOf f (bit t) (take n ts)) ts) ts
+      → Holding tainted (put (cellsOf n xs ns) a v) (put (cellsOf n xs ts) a (bit t)) r xs ns ts xs′ ns′ ts′
+  store-holds r xs′ ns′ ts′ g h k =
+      let q : growOf f a (take n xs) ≡ addresses (put (cellsOf n xs ns) a v) =
+      ap (λ (f : Found). growOf f a (take n xs)) e ∙ sym (addresses-stored n xs ns (o .addresses) (o .level) a v) in
+      record {
+        used = g .0 ∙ ap length q ∙ length-addresses (put (cellsOf n xs ns) a v);
+        addresses = g .1 ∙ ap (λ (l : List ℕ). overlay l xs) q;
+        numbers = h
+            ∙ ap (λ (l : List ℕ). overlay l ns)
+            (ap (λ (f : Found). keepOf f v (take n ns)) e ∙ sym (contents-stored n xs ns (o .addresses) (o .level) a v));
+        taints = k ∙ taints-stored tainted refl;
+      }

@@ -1,0 +1,169 @@
+-- Cells after a store, of one value or of many: how many they are, that their addresses rise, and that taints and numbers keep one
+-- list of addresses; and the rules' store of many, whose refusals do not depend on the cells.
+use Prim.Native.Nat.{ℕ, zero, suc, _+_, _≤_, _<_}
+use mathlib.Core.Path.{_≡_, refl, sym, ap, subst, _∙_}
+use mathlib.Core.Bool.{Bool, true, false}
+use mathlib.Core.List.{List, [], _∷_}
+use native.Mathlib.Omega.{arith}
+use lib.Dec.{ltb, leb, eqb}
+use lib.ListN.{length}
+use borrow.Author.Tests.{lt-ltb, le-leb, ltb-true, ltb-false, eqb-true, eqb-false}
+use Rattle.rules.specs.declared.Refusal.{Refusal}
+use Rattle.rules.specs.declared.Refusal.the-variants.{StoreFault, ProphetStore}
+use Rattle.rules.specs.Numbers.{p, heapEnd, choose}
+use Rattle.rules.specs.Results.{refuse, pass, require}
+use Rattle.rules.specs.Cells.{Cells, none, cell, put, count, addresses, contents, cells, Rising}
+use Rattle.rules.specs.PlainMap.{isPresent}
+use Rattle.rules.specs.Step.{isStorable, storeMany}
+use Rattle.rules.specs.Taint.{cleanMany}
+use Rattle.rules.specs.Entry.{risingFrom, every}
+use Rattle.rules.proofs.BoolLaws.{and-left, and-right, and-true}
+use Rattle.rules.proofs.ResultLaws.{refuse-pass, pass-injective, require-pass, pass-require}
+use Rattle.rules.proofs.CellLaws.{get-put-other, count-put, zipped-again, zipped-rising, rising-put as map-rising-put}
+use Rattle.hardware.specs.Buffers.{has, missing, putMany}
+use Rattle.hardware.proofs.RankLaws.{rising-rest}
+use Rattle.hardware.proofs.SpanLaws.{present-has}
+
+-- Rising addresses
+
+risingFrom-put : {A : Type 0} (n : ℕ) (c : Cells A) (a : ℕ) (v : A) → n ≤ a → a < heapEnd → risingFrom n (addresses c) ≡ true
+    → risingFrom n (addresses (put c a v)) ≡ true
+risingFrom-put n none a v h k r = rw (le-leb n a h, lt-ltb a heapEnd k)
+risingFrom-put {A} n (cell b w c) a v h k r = go (λ m. risingFrom-put (suc b) c a v m k (rising-rest n b (addresses c) r)) (ltb a b) refl (eqb a b) refl
+  where
+    go : (suc b ≤ a → risingFrom (suc b) (addresses (put c a v)) ≡ true) → (t : Bool) → ltb a b ≡ t → (u : Bool) → eqb a b ≡ u
+        → risingFrom n (addresses (choose t (cell a v (cell b w c)) (choose u (cell a v c) (cell b w (put c a v))))) ≡ true
+    go i true e u f =
+        let l : a < b = ltb-true a b e in
+        rw (le-leb n a h, lt-ltb a heapEnd k, le-leb (suc a) b (omega arith)) (and-right (leb n b) _ r)
+    go i false e true f = let q : b ≡ a = sym (eqb-true a b f) in rw (← q) r
+    go i false e false f =
+        let l : b ≤ a = ltb-false a b e in
+        let m : a ≡ b → ⊥ = eqb-false a b f in
+        and-true (and-left (leb n b) _ r) (and-true (and-left (ltb b heapEnd) _ (and-right (leb n b) _ r)) (i (omega arith)))
+
+pub rising-put : {A : Type 0} (c : Cells A) (a : ℕ) (v : A) → a < heapEnd → risingFrom 0 (addresses c) ≡ true
+    → risingFrom 0 (addresses (put c a v)) ≡ true
+rising-put c a v h r = risingFrom-put 0 c a v (omega arith) h r
+
+pub rising-putMany : (c : Cells ℕ) (a : ℕ) (vs : List ℕ) → (0 < length vs → a + length vs ≤ heapEnd) → risingFrom 0 (addresses c) ≡ true
+    → risingFrom 0 (addresses (putMany c a vs)) ≡ true
+rising-putMany c a [] h r = r
+rising-putMany c a (v ∷ vs) h r =
+    let k : a + suc (length vs) ≤ heapEnd = h (omega arith) in
+    rising-putMany (put c a v) (suc a) vs (λ l. omega arith) (rising-put c a v (omega arith) r)
+
+-- Taints beside numbers
+
+pub addresses-put : {A B : Type 0} (t : Cells A) (c : Cells B) (a : ℕ) (x : A) (y : B) → addresses t ≡ addresses c
+    → addresses (put t a x) ≡ addresses (put c a y)
+addresses-put none none a x y e = refl
+addresses-put none (cell b w c) a x y e = absurd (let z : _≡_ {A = ℕ} 0 1 = cc in omega arith)
+addresses-put (cell d u t) none a x y e = absurd (let z : _≡_ {A = ℕ} 0 1 = cc in omega arith)
+addresses-put {A} {B} (cell d u t) (cell b w c) a x y e =
+    let q : d ≡ b = cc in
+    let i : addresses t ≡ addresses c = cc in
+    rw q (go i (addresses-put t c a x y i) (ltb a b) (eqb a b))
+  where
+    go : addresses t ≡ addresses c → addresses (put t a x) ≡ addresses (put c a y) → (s r : Bool)
+        → addresses (choose s (cell a x (cell b u t)) (choose r (cell a x t) (cell b u (put t a x))))
+        ≡ addresses (choose s (cell a y (cell b w c)) (choose r (cell a y c) (cell b w (put c a y))))
+    go i h true r = ap (λ l. a ∷ b ∷ l) i
+    go i h false true = ap (λ l. a ∷ l) i
+    go i h false false = ap (λ l. b ∷ l) h
+
+pub addresses-cleanMany : (t c : Cells ℕ) (a : ℕ) (vs : List ℕ) → addresses t ≡ addresses c
+    → addresses (cleanMany (cells ℕ) t a vs) ≡ addresses (putMany c a vs)
+unfolding cleanMany
+addresses-cleanMany t c a [] e = e
+addresses-cleanMany t c a (v ∷ vs) e = addresses-cleanMany (put t a 0) (put c a v) (suc a) vs (addresses-put t c a 0 v e)
+
+-- How many cells there are
+
+pub has-put-other : (c : Cells ℕ) (a v x : ℕ) → (a ≡ x → ⊥) → has (addresses (put c a v)) x ≡ has (addresses c) x
+has-put-other c a v x n = sym (present-has (put c a v) x) ∙ ap isPresent (get-put-other c a v x n) ∙ present-has c x
+
+-- a store changes nothing behind its address
+pub missing-put : (c : Cells ℕ) (a v b n : ℕ) → a < b → missing (addresses (put c a v)) b n ≡ missing (addresses c) b n
+missing-put c a v b zero h = refl
+missing-put c a v b (suc n) h = rw (has-put-other c a v b (λ e. omega arith), missing-put c a v (suc b) n (omega arith))
+
+rises : {A : Type 0} (c : Cells A) → risingFrom 0 (addresses c) ≡ true → Rising c
+rises c r = subst Rising (zipped-again c) (zipped-rising (addresses c) (contents c) r)
+
+count-one : (c : Cells ℕ) (a v : ℕ) → Rising c → count (put c a v) ≡ count c + missing (addresses c) a 1
+count-one c a v r = rw (count-put 0 c a v r, present-has c a) (go (has (addresses c) a))
+  where
+    go : (t : Bool) → choose t (count c) (suc (count c)) ≡ count c + choose t 0 1
+    go true = omega arith
+    go false = omega arith
+
+count-many : (c : Cells ℕ) (a : ℕ) (vs : List ℕ) → Rising c → count (putMany c a vs) ≡ count c + missing (addresses c) a (length vs)
+count-many c a [] r = omega arith
+count-many c a (v ∷ vs) r =
+    let i : count (putMany (put c a v) (suc a) vs) ≡ count (put c a v) + missing (addresses c) (suc a) (length vs) =
+    rw (missing-put c a v (suc a) (length vs) (omega arith)) at (count-many (put c a v) (suc a) vs (map-rising-put c a v r))
+    in
+    go (has (addresses c) a) i (count-one c a v r)
+  where
+    go : (t : Bool) → count (putMany (put c a v) (suc a) vs) ≡ count (put c a v) + missing (addresses c) (suc a) (length vs)
+        → count (put c a v) ≡ count c + choose t 0 1
+        → count (putMany (put c a v) (suc a) vs) ≡ count c + choose t (missing (addresses c) (suc a) (length vs)) (suc (missing (addresses c) (suc a) (length vs)))
+    go true i h = omega arith
+    go false i h = omega arith
+
+pub count-put-missing : (c : Cells ℕ) (a v : ℕ) → risingFrom 0 (addresses c) ≡ true → count (put c a v) ≡ count c + missing (addresses c) a 1
+count-put-missing c a v r = count-one c a v (rises c r)
+
+pub count-putMany : (c : Cells ℕ) (a : ℕ) (vs : List ℕ) → risingFrom 0 (addresses c) ≡ true
+    → count (putMany c a vs) ≡ count c + missing (addresses c) a (length vs)
+count-putMany c a vs r = count-many c a vs (rises c r)
+
+-- The rules' store of many
+
+below-p : (a : ℕ) → a < heapEnd → a < p
+unfolding heapEnd p
+below-p a h = omega arith
+
+pub stored : (c : Cells ℕ) (a : ℕ) (vs : List ℕ) {d : Cells ℕ} → storeMany (cells ℕ) c a vs ≡ pass d → d ≡ putMany c a vs
+unfolding storeMany
+stored c a [] e = sym (pass-injective e)
+stored c a (v ∷ vs) e =
+    stored (put c a v) (suc a) vs (require-pass (ltb a heapEnd) ProphetStore _ (require-pass (ltb a p) StoreFault _ (require-pass (isStorable v) StoreFault _ e .1) .1) .1)
+
+-- what it says of the tests
+pub stored-within : (c : Cells ℕ) (a : ℕ) (vs : List ℕ) {d : Cells ℕ} → storeMany (cells ℕ) c a vs ≡ pass d → 0 < length vs → a + length vs ≤ heapEnd
+unfolding storeMany
+stored-within c a [] e h = absurd (omega arith)
+stored-within c a (v ∷ vs) e h =
+    let q = require-pass (ltb a heapEnd) ProphetStore _ (require-pass (ltb a p) StoreFault _ (require-pass (isStorable v) StoreFault _ e .1) .1) in
+    let k : a < heapEnd = ltb-true a heapEnd (q .0) in
+    go k vs (stored-within (put c a v) (suc a) vs (q .1))
+  where
+    go : a < heapEnd → (vs : List ℕ) → (0 < length vs → suc a + length vs ≤ heapEnd) → a + suc (length vs) ≤ heapEnd
+    go k [] i = omega arith
+    go k (w ∷ ws) i = let j : suc a + suc (length ws) ≤ heapEnd = i (omega arith) in omega arith
+
+pub stores : (c : Cells ℕ) (a : ℕ) (vs : List ℕ) → every isStorable vs ≡ true → (0 < length vs → a + length vs ≤ heapEnd)
+    → storeMany (cells ℕ) c a vs ≡ pass (putMany c a vs)
+unfolding storeMany
+stores c a [] s h = refl
+stores c a (v ∷ vs) s h =
+    let k : a + suc (length vs) ≤ heapEnd = h (omega arith) in
+    pass-require StoreFault (and-left (isStorable v) _ s)
+    (pass-require StoreFault (lt-ltb a p (below-p a (omega arith)))
+    (pass-require ProphetStore (lt-ltb a heapEnd (omega arith)) (stores (put c a v) (suc a) vs (and-right (isStorable v) _ s) (λ l. omega arith))))
+
+pub store-refused : (c d : Cells ℕ) (a : ℕ) (vs : List ℕ) {f : Refusal} → storeMany (cells ℕ) c a vs ≡ refuse f → storeMany (cells ℕ) d a vs ≡ refuse f
+unfolding storeMany require
+store-refused c d a [] e = refuse-pass (sym e)
+store-refused c d a (v ∷ vs) {f} e = go (λ h. store-refused (put c a v) (put d a v) (suc a) vs h) (isStorable v) (ltb a p) (ltb a heapEnd) e
+  where
+    go : (storeMany (cells ℕ) (put c a v) (suc a) vs ≡ refuse f → storeMany (cells ℕ) (put d a v) (suc a) vs ≡ refuse f)
+        → (x y z : Bool)
+        → require x StoreFault (require y StoreFault (require z ProphetStore (storeMany (cells ℕ) (put c a v) (suc a) vs))) ≡ refuse f
+        → require x StoreFault (require y StoreFault (require z ProphetStore (storeMany (cells ℕ) (put d a v) (suc a) vs))) ≡ refuse f
+    go k false y z e = e
+    go k true false z e = e
+    go k true true false e = e
+    go k true true true e = k e

@@ -1,0 +1,92 @@
+-- Cells in buffers.
+use Prim.Native.Nat.{ℕ, zero, suc, _≤_}
+use mathlib.Core.Path.{_≡_}
+use mathlib.Core.Bool.{Bool, true, false, _&&_, _||_}
+use mathlib.Core.List.{List, [], _∷_}
+use lib.Dec.{ltb, eqb}
+use lib.ListN.{length, take}
+use Rattle.rules.specs.Numbers.{choose}
+use Rattle.rules.specs.Memory.{Slot, absent, present}
+use Rattle.rules.specs.Cells as Cells
+use Rattle.rules.specs.Cells.{Cells, zipped, get, put, count, cells}
+use Rattle.rules.specs.Step.{overlay}
+use Rattle.rules.specs.Taint.{cellTaint}
+use Rattle.rules.specs.Entry.{risingFrom}
+use Rattle.hardware.specs.declared.cells.Found.{Found}
+use Rattle.hardware.specs.declared.cells.Found.the-variants as Found
+use Rattle.hardware.specs.declared.cells.Cell.{Cell}
+use Rattle.hardware.specs.declared.cells.Cell.the-variants as Cell
+use Rattle.hardware.specs.declared.cells.Span.{Span}
+use Rattle.hardware.specs.declared.cells.Span.the-variants as Span
+
+-- Among rising addresses
+
+-- how many lie below an address
+abbrev pub rank : List ℕ → ℕ → ℕ
+rank [] a = zero
+rank (b ∷ l) a = choose (ltb b a) (suc (rank l a)) zero
+
+-- is an address one of them?
+abbrev pub has : List ℕ → ℕ → Bool
+has [] a = false
+has (b ∷ l) a = eqb b a || has l a
+
+-- where it is, or where it would go
+abbrev pub foundOf : List ℕ → ℕ → Found
+foundOf l a = choose (has l a) (Found.At (rank l a)) (Found.Absent (rank l a))
+
+-- are all n from a on among them?
+abbrev pub hasAll : List ℕ → ℕ → ℕ → Bool
+hasAll l a zero = true
+hasAll l a (suc n) = has l a && hasAll l (suc a) n
+
+-- where the first of a span's cells is
+abbrev pub spanOf : List ℕ → ℕ → ℕ → Span
+spanOf l a n = choose (hasAll l a n) (Span.At (rank l a)) Span.Absent
+
+-- how many of the n from a on are not among them
+abbrev pub missing : List ℕ → ℕ → ℕ → ℕ
+missing l a zero = zero
+missing l a (suc n) = choose (has l a) (missing l (suc a) n) (suc (missing l (suc a) n))
+
+-- Cells
+
+-- the first n elements of two buffers, as cells
+abbrev pub cellsOf : ℕ → List ℕ → List ℕ → Cells ℕ
+cellsOf n xs ns = zipped (take n xs) (take n ns)
+
+abbrev pub slotCell : Slot ℕ → Bool → Cell
+slotCell absent t = Cell.Absent
+slotCell (present v) t = Cell.Present v t
+
+-- a cell, and in a tainted run its taint
+abbrev pub cellOf : Bool → Cells ℕ → Cells ℕ → ℕ → Cell
+cellOf tainted c t a = slotCell (get c a) (tainted && cellTaint (cells ℕ) t a)
+
+-- the cells with values from an address on
+abbrev pub putMany : Cells ℕ → ℕ → List ℕ → Cells ℕ
+putMany c a [] = c
+putMany c a (v ∷ vs) = putMany (put c a v) (suc a) vs
+
+-- is one of the taints set?
+abbrev pub anyTaint : List ℕ → Bool
+anyTaint [] = false
+anyTaint (t ∷ ts) = eqb t 1 || anyTaint ts
+
+-- the first n addresses of a buffer rise within stack and heap
+pub record Rising (n : ℕ) (xs : List ℕ) : Type 0 where
+  pub within : n ≤ length xs
+  pub rises : risingFrom 0 (take n xs) ≡ true
+
+-- the buffers of cells, of which the first n are used, have one length; the taints' buffer counts only in a tainted run
+pub record Ordered (tainted : Bool) (n : ℕ) (xs ns ts : List ℕ) : Type 0 where
+  pub addresses : Rising n xs
+  pub level : length ns ≡ length xs
+  pub taintLevel : tainted ≡ true → length ts ≡ length xs
+
+-- the buffers afterwards hold the cells c, r in number, and in a tainted run the taints t; behind them stands what stood there
+pub record Holding (tainted : Bool) (c t : Cells ℕ) (r : ℕ) (xs ns ts xs′ ns′ ts′ : List ℕ) : Type 0 where
+  pub used : r ≡ count c
+  pub addresses : xs′ ≡ overlay (Cells.addresses c) xs
+  pub numbers : ns′ ≡ overlay (Cells.contents c) ns
+  pub taints : ts′ ≡ choose tainted (overlay (Cells.contents t) ts) ts

@@ -1,0 +1,27 @@
+-- Where a value goes among the used elements of a buffer.
+use Prim.Native.Nat.{ℕ, zero, suc, _≤_, _<_}
+use mathlib.Core.List.{List, [], _∷_}
+use lib.ListN.{set}
+use Rattle.hardware.specs.declared.cells.Found.{Found}
+use Rattle.hardware.specs.declared.cells.Found.the-variants.{At, Absent}
+
+-- v put in at a place; those from there on move up by one
+abbrev pub insertAt : ℕ → ℕ → List ℕ → List ℕ
+insertAt zero v l = v ∷ l
+insertAt (suc i) v [] = v ∷ []
+insertAt (suc i) v (x ∷ l) = x ∷ insertAt i v l
+
+-- v in the place of what was found, or put in where it would go
+abbrev pub keepOf : Found → ℕ → List ℕ → List ℕ
+keepOf (At i) v l = set l i v
+keepOf (Absent i) v l = insertAt i v l
+
+-- the addresses with one more, where it was absent
+abbrev pub growOf : Found → ℕ → List ℕ → List ℕ
+growOf (At i) a l = l
+growOf (Absent i) a l = insertAt i a l
+
+-- a place among the first n of k elements, with capacity for one more where it is new
+abbrev pub Within : Found → ℕ → ℕ → Type 0
+Within (At i) n k = (i < n) × (n ≤ k)
+Within (Absent i) n k = (i ≤ n) × (n < k)

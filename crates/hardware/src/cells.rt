@@ -1,0 +1,243 @@
+// Memory cells: a map from address to number, and in a tainted run to a taint, in buffers whose first `count` elements are used; the
+// addresses are strictly rising.
+ghost use mathlib.Core.Path.{_≡_};
+ghost use mathlib.Core.Bool.{true};
+ghost use Prim.Native.Nat.{ℕ, _+_, _≤_, _<_};
+ghost use lib.Dec.{leb};
+ghost use lib.ListN.{length, take, drop};
+ghost use Rattle.rules.specs.Numbers.{choose, bit, heapEnd, wordEnd};
+ghost use Rattle.rules.specs.Cells as Cells;
+ghost use Rattle.rules.specs.Cells.{put};
+ghost use Rattle.rules.specs.Step.{overlay};
+ghost use Rattle.rules.specs.Taint.{cleanMany};
+ghost use Rattle.rules.specs.Entry.{risingFrom};
+ghost use Rattle.hardware.specs.Buffers.{rank, foundOf, spanOf, missing, anyTaint, cellsOf, cellOf, putMany, Rising, Ordered, Holding};
+ghost use Rattle.hardware.specs.Places.{insertAt, keepOf, growOf, Within};
+
+// Where an address is, or where it would go.
+pub enum Found {
+    At(usize),
+    Absent(usize),
+}
+
+// What stands at an address. A taint is told only in a tainted run.
+pub enum Cell {
+    Present { number: u64, tainted: bool },
+    Absent,
+}
+
+// Where the first of a span's cells is, if all are present.
+pub enum Span {
+    At(usize),
+    Absent,
+}
+
+// How many of the rising addresses lie below an address, by halving.
+fn rank_of(used: &[u64], address: u64) -> usize
+    requires { ⌜ risingFrom 0 (now used) ≡ true ⌝ }
+    ensures { λ r. ⌜ r ≡ rank (now (used .entry)) address ⌝ }
+{
+    let mut low = 0;
+    let mut high = used.len();
+    while low < high {
+        let middle = low + (high - low) / 2;
+        if used[middle] < address {
+            low = middle + 1;
+        } else {
+            high = middle;
+        }
+    }
+    low
+}
+
+// Where an address is.
+fn find(addresses: &[u64], count: usize, address: u64) -> Found
+    requires { ⌜ Rising count (now addresses) ⌝ }
+    ensures { λ r. ⌜ r ≡ foundOf (take count (now (addresses .entry))) address ⌝ }
+{
+    let at = rank_of(&addresses[..count], address);
+    if at < count {
+        if addresses[at] == address {
+            return Found::At(at);
+        }
+        return Found::Absent(at);
+    }
+    Found::Absent(at)
+}
+
+// Reads a cell.
+pub fn read(
+    tainted: bool,
+    addresses: &[u64],
+    numbers: &[u64],
+    taints: &[u64],
+    count: usize,
+    address: u64,
+) -> Cell
+    requires { ⌜ Ordered tainted count (now addresses) (now numbers) (now taints) ⌝ }
+    ensures { λ r. ⌜ r ≡ cellOf tainted (cellsOf count (now (addresses .entry)) (now (numbers .entry))) (cellsOf count (now (addresses .entry)) (now (taints .entry))) address ⌝ }
+{
+    match find(addresses, count, address) {
+        Found::At(at) => Cell::Present {
+            number: numbers[at],
+            tainted: tainted && taints[at] == 1,
+        },
+        Found::Absent(_) => Cell::Absent,
+    }
+}
+
+// Where the n cells from an address on are. Addresses rise, so all are present where the last of as many places has the last address.
+pub fn find_span(addresses: &[u64], count: usize, start: u64, n: u64) -> Span
+    requires { ⌜ Rising count (now addresses) ⌝ }
+    requires { ⌜ start + n < wordEnd ⌝ }
+    ensures { λ r. ⌜ r ≡ spanOf (take count (now (addresses .entry))) start n ⌝ }
+{
+    let at = rank_of(&addresses[..count], start);
+    if n == 0 {
+        return Span::At(at);
+    }
+    if ((count - at) as u64) < n {
+        return Span::Absent;
+    }
+    if addresses[at + (n as usize - 1)] == start + (n - 1) {
+        return Span::At(at);
+    }
+    Span::Absent
+}
+
+// Is there capacity for the n cells from an address on? Those that are present need none.
+pub fn has_capacity(addresses: &[u64], count: usize, start: u64, n: usize) -> bool
+    requires { ⌜ Rising count (now addresses) ⌝ }
+    requires { ⌜ start + n < wordEnd ⌝ }
+    ensures { λ r. ⌜ r ≡ leb (count + missing (take count (now (addresses .entry))) start n) (length (now (addresses .entry))) ⌝ }
+{
+    if n <= addresses.len() - count {
+        return true;
+    }
+    let low = rank_of(&addresses[..count], start);
+    let high = rank_of(&addresses[..count], start + n as u64);
+    n - (high - low) <= addresses.len() - count
+}
+
+// Is one of the n cells from a place on tainted?
+pub fn any_tainted(taints: &[u64], at: usize, n: usize) -> bool
+    requires { ⌜ at + n ≤ length (now taints) ⌝ }
+    ensures { λ r. ⌜ r ≡ anyTaint (take n (drop at (now (taints .entry)))) ⌝ }
+{
+    let mut i = 0;
+    while i < n {
+        if taints[at + i] == 1 {
+            return true;
+        }
+        i += 1;
+    }
+    false
+}
+
+// Puts v in at a place of the first `count` elements, which move up by one from there on.
+fn insert_at(buffer: &mut [u64], count: usize, at: usize, v: u64)
+    requires { ⌜ at ≤ count ⌝ }
+    requires { ⌜ count < length (now buffer) ⌝ }
+    ensures { λ _. ⌜ now (buffer .exit) ≡ overlay (insertAt at v (take count (now (buffer .entry)))) (now (buffer .entry)) ⌝ }
+{
+    let mut i = count;
+    while at < i {
+        buffer[i] = buffer[i - 1];
+        i = i - 1;
+    }
+    buffer[at] = v;
+}
+
+// v in the place of what was found, or put in where it would go.
+fn keep(buffer: &mut [u64], count: usize, found: Found, v: u64)
+    requires { ⌜ Within found count (length (now buffer)) ⌝ }
+    ensures { λ _. ⌜ now (buffer .exit) ≡ overlay (keepOf found v (take count (now (buffer .entry)))) (now (buffer .entry)) ⌝ }
+{
+    match found {
+        Found::At(at) => {
+            buffer[at] = v;
+        }
+        Found::Absent(at) => {
+            insert_at(buffer, count, at, v);
+        }
+    }
+}
+
+// In a tainted run a taint, kept as the number is.
+fn keep_taint(tainted: bool, taints: &mut [u64], count: usize, found: Found, taint: bool)
+    requires { ⌜ (tainted ≡ true → Within found count (length (now taints))) ⌝ }
+    ensures { λ _. ⌜ now (taints .exit) ≡ choose tainted (overlay (keepOf found (bit taint) (take count (now (taints .entry)))) (now (taints .entry))) (now (taints .entry)) ⌝ }
+{
+    if tainted {
+        keep(taints, count, found, taint as u64);
+    }
+}
+
+// The address among the addresses; how many they are afterwards.
+fn grow(addresses: &mut [u64], count: usize, found: Found, address: u64) -> usize
+    requires { ⌜ Within found count (length (now addresses)) ⌝ }
+    ensures { λ r. ⌜ r ≡ length (growOf found address (take count (now (addresses .entry)))) ⌝ }
+    ensures { λ _. ⌜ now (addresses .exit) ≡ overlay (growOf found address (take count (now (addresses .entry)))) (now (addresses .entry)) ⌝ }
+{
+    match found {
+        Found::At(_) => count,
+        Found::Absent(at) => {
+            insert_at(addresses, count, at, address);
+            count + 1
+        }
+    }
+}
+
+// Stores a number, and in a tainted run its taint; how many cells are used afterwards.
+pub fn store(
+    tainted: bool,
+    addresses: &mut [u64],
+    numbers: &mut [u64],
+    taints: &mut [u64],
+    count: usize,
+    address: u64,
+    number: u64,
+    taint: bool,
+) -> usize
+    requires { ⌜ Ordered tainted count (now addresses) (now numbers) (now taints) ⌝ }
+    requires { ⌜ Cells.count (put (cellsOf count (now addresses) (now numbers)) address number) ≤ length (now addresses) ⌝ }
+    ensures { λ r. ⌜ Holding tainted (put (cellsOf count (now (addresses .entry)) (now (numbers .entry))) address number) (put (cellsOf count (now (addresses .entry)) (now (taints .entry))) address (bit taint)) r (now (addresses .entry)) (now (numbers .entry)) (now (taints .entry)) (now (addresses .exit)) (now (numbers .exit)) (now (taints .exit)) ⌝ }
+{
+    let found = find(addresses, count, address);
+    keep_taint(tainted, taints, count, found, taint);
+    keep(numbers, count, found, number);
+    grow(addresses, count, found, address)
+}
+
+// Stores values, untainted, to the cells from an address on; how many cells are used afterwards.
+pub fn store_many(
+    tainted: bool,
+    addresses: &mut [u64],
+    numbers: &mut [u64],
+    taints: &mut [u64],
+    count: usize,
+    start: u64,
+    values: &[u64],
+) -> usize
+    requires { ⌜ Ordered tainted count (now addresses) (now numbers) (now taints) ⌝ }
+    requires { ⌜ (0 < length (now values) → start + length (now values) ≤ heapEnd) ⌝ }
+    requires { ⌜ Cells.count (putMany (cellsOf count (now addresses) (now numbers)) start (now values)) ≤ length (now addresses) ⌝ }
+    ensures { λ r. ⌜ Holding tainted (putMany (cellsOf count (now (addresses .entry)) (now (numbers .entry))) start (now (values .entry))) (cleanMany (Cells.cells ℕ) (cellsOf count (now (addresses .entry)) (now (taints .entry))) start (now (values .entry))) r (now (addresses .entry)) (now (numbers .entry)) (now (taints .entry)) (now (addresses .exit)) (now (numbers .exit)) (now (taints .exit)) ⌝ }
+{
+    let mut used = count;
+    let mut stored = 0;
+    while stored < values.len() {
+        used = store(
+            tainted,
+            addresses,
+            numbers,
+            taints,
+            used,
+            start + stored as u64,
+            values[stored],
+            false,
+        );
+        stored += 1;
+    }
+    used
+}

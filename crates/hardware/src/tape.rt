@@ -1,0 +1,17 @@
+// The tape's writer.
+ghost use mathlib.Core.Path.{_≡_};
+ghost use Prim.Native.Nat.{_≤_};
+ghost use lib.ListN.{length};
+ghost use Rattle.rules.specs.Step.{overlay};
+
+// Writes values at the front of a free part, which a caller lends from the count of a tape or output on.
+pub fn write_values(free: &mut [u64], values: &[u64])
+    requires { ⌜ length (now values) ≤ length (now free) ⌝ }
+    ensures { λ _. ⌜ now (free .exit) ≡ overlay (now (values .entry)) (now (free .entry)) ⌝ }
+{
+    let mut i = 0;
+    while i < values.len() {
+        free[i] = values[i];
+        i += 1;
+    }
+}
