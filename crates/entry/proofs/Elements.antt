@@ -1,0 +1,86 @@
+-- The tests on elements, from a place on: the element there passes or fails, or the elements end.
+use Prim.Native.Nat.{ℕ, suc, _+_, _-_, _/_, _%_, _≤_, _<_}
+use mathlib.Core.Path.{_≡_, refl, sym, ap, _∙_}
+use mathlib.Core.Bool.{Bool, true, false, not, _||_}
+use mathlib.Core.List.{List, [], _∷_, map}
+use native.Mathlib.Omega.{arith}
+use native.Mathlib.Numerals.{add-one}
+use lib.Dec.{ltb, leb, eqb}
+use lib.ListN.{length, getD, drop, drop-of-length-le}
+use lib.Seq.{drop-cons}
+use borrow.Author.Tests.{lt-ltb, le-ltb, le-leb, lt-leb}
+use Rattle.rules.specs.Numbers.{p, heapEnd}
+use Rattle.rules.specs.Entry.{every, risingFrom, lowBits, taintedBelow}
+use Rattle.rules.proofs.BoolLaws.{and-with-false}
+
+module _ (l : List ℕ) (i : ℕ) where
+  abbrev element : ℕ
+  element = getD l i 0
+
+  pub every-more : (f : ℕ → Bool) → i < length l → f element ≡ true → every f (drop i l) ≡ every f (drop (i + 1) l)
+  every-more f h e = rw (add-one, drop-cons l i 0 h, e)
+
+  pub every-fails : (f : ℕ → Bool) → i < length l → f element ≡ false → every f (drop i l) ≡ false
+  every-fails f h e = rw (drop-cons l i 0 h, e)
+
+  pub every-end : (f : ℕ → Bool) → length l ≤ i → every f (drop i l) ≡ true
+  every-end f h = rw (drop-of-length-le l h)
+
+  pub rising-more : (n : ℕ) → i < length l → n ≤ element → element < heapEnd → risingFrom n (drop i l) ≡ risingFrom (element + 1) (drop (i + 1) l)
+  rising-more n h low high = rw (add-one element, add-one i, drop-cons l i 0 h, le-leb n element low, lt-ltb element heapEnd high)
+
+  pub rising-low : (n : ℕ) → i < length l → element < n → risingFrom n (drop i l) ≡ false
+  rising-low n h low = rw (drop-cons l i 0 h, lt-leb n element low)
+
+  pub rising-high : (n : ℕ) → i < length l → heapEnd ≤ element → risingFrom n (drop i l) ≡ false
+  rising-high n h high = rw (drop-cons l i 0 h, le-ltb element heapEnd high) (and-with-false (leb n element))
+
+  pub rising-end : (n : ℕ) → length l ≤ i → risingFrom n (drop i l) ≡ true
+  rising-end n h = rw (drop-of-length-le l h)
+
+  pub tainted-more : (t : Bool) (ts : List Bool) → i < length l → (not t || ltb element p) ≡ true
+      → taintedBelow (t ∷ ts) (drop i l) ≡ taintedBelow ts (drop (i + 1) l)
+  tainted-more t ts h e = rw (add-one, drop-cons l i 0 h, e)
+
+  pub tainted-fails : (t : Bool) (ts : List Bool) → i < length l → (not t || ltb element p) ≡ false → taintedBelow (t ∷ ts) (drop i l) ≡ false
+  tainted-fails t ts h e = rw (drop-cons l i 0 h, e)
+
+  pub tainted-end : (ts : List Bool) → length l ≤ i → taintedBelow ts (drop i l) ≡ true
+  tainted-end ts h = rw (drop-of-length-le l h) (none ts)
+    where
+      none : (ts : List Bool) → taintedBelow ts [] ≡ true
+      none [] = refl
+      none (t ∷ ts) = refl
+
+-- which cells are tainted
+abbrev pub tainted : List ℕ → List Bool
+tainted ts = map (λ t. eqb t 1) ts
+
+module _ (ts ns : List ℕ) (i : ℕ) where
+  pub cells-more : i < length ts → i < length ns → (not (eqb (getD ts i 0) 1) || ltb (getD ns i 0) p) ≡ true
+      → taintedBelow (tainted (drop i ts)) (drop i ns) ≡ taintedBelow (tainted (drop (i + 1) ts)) (drop (i + 1) ns)
+  cells-more h k e =
+      ap (λ l. taintedBelow (tainted l) (drop i ns)) (drop-cons ts i 0 h)
+      ∙ tainted-more ns i (eqb (getD ts i 0) 1) (tainted (drop (suc i) ts)) k e
+      ∙ ap (λ (j : ℕ). taintedBelow (tainted (drop j ts)) (drop (i + 1) ns)) (sym (add-one i))
+
+  pub cells-fail : i < length ts → i < length ns → (not (eqb (getD ts i 0) 1) || ltb (getD ns i 0) p) ≡ false
+      → taintedBelow (tainted (drop i ts)) (drop i ns) ≡ false
+  cells-fail h k e =
+      ap (λ l. taintedBelow (tainted l) (drop i ns)) (drop-cons ts i 0 h)
+      ∙ tainted-fails ns i (eqb (getD ts i 0) 1) (tainted (drop (suc i) ts)) k e
+
+pub cells-end : (ts : List ℕ) (i : ℕ) (ns : List ℕ) → length ts ≤ i → taintedBelow (tainted (drop i ts)) ns ≡ true
+cells-end ts i ns h = rw (drop-of-length-le ts h)
+
+-- the taints of registers: the bits that are left of a word
+module _ (l : List ℕ) (i n w : ℕ) where
+  bits : i < n → lowBits (n - i) w ≡ eqb (w % 2) 1 ∷ lowBits (n - (i + 1)) (w / 2)
+  bits h = let e : n - i ≡ suc (n - (i + 1)) = omega arith in ap (λ (k : ℕ). lowBits k w) e
+
+  pub registers-more : i < n → i < length l → (not (eqb (w % 2) 1) || ltb (getD l i 0) p) ≡ true
+      → taintedBelow (lowBits (n - i) w) (drop i l) ≡ taintedBelow (lowBits (n - (i + 1)) (w / 2)) (drop (i + 1) l)
+  registers-more h k e = ap (λ ts. taintedBelow ts (drop i l)) (bits h) ∙ tainted-more l i (eqb (w % 2) 1) (lowBits (n - (i + 1)) (w / 2)) k e
+
+  pub registers-fail : i < n → i < length l → (not (eqb (w % 2) 1) || ltb (getD l i 0) p) ≡ false → taintedBelow (lowBits (n - i) w) (drop i l) ≡ false
+  registers-fail h k e = ap (λ ts. taintedBelow ts (drop i l)) (bits h) ∙ tainted-fails l i (eqb (w % 2) 1) (lowBits (n - (i + 1)) (w / 2)) k e

@@ -1,0 +1,3 @@
+-- What the functions' proofs have in common.
+pub mod Tests
+pub mod Elements

@@ -1,0 +1,176 @@
+// The tests of refusal 3 on what a caller hands in. They look at the used elements of each buffer only.
+//
+// Internal, for the crates above, and for any arguments: `accepts`, and `accepts_taints` for what only a tainted run has.
+use goldilocks::GoldilocksField;
+use hardware::regions::Region;
+use rules::Machine;
+ghost use mathlib.Core.Path.{_≡_};
+ghost use mathlib.Core.Bool.{not, _||_};
+ghost use mathlib.Core.List.{List, map};
+ghost use Prim.Native.Nat.{ℕ};
+ghost use lib.Dec.{ltb, leb, eqb};
+ghost use lib.ListN.{take};
+ghost use Rattle.rules.specs.Numbers.{p};
+ghost use Rattle.rules.specs.Entry.{every, risingFrom, lowBits, taintedBelow, plainEntry, taintEntry};
+
+// clk has to be below it.
+pub const CLOCK_END: u64 = 1_000_000_000_000;
+
+// The most cells, and the most values of tape or output.
+pub const CELL_LIMIT: usize = 2048;
+
+pub const VALUE_LIMIT: usize = 4096;
+
+// The used part of a buffer: as far as the count and the buffer go.
+fn used(buffer: &[u64], count: usize) -> &[u64]
+    ensures { λ r. ⌜ now r ≡ take count (now (buffer .entry)) ⌝ }
+{
+    if buffer.len() < count {
+        return buffer;
+    }
+    &buffer[..count]
+}
+
+// Are the addresses strictly rising, within stack and heap?
+fn rising(addresses: &[u64]) -> bool
+    ensures { λ r. ⌜ r ≡ risingFrom 0 (now (addresses .entry)) ⌝ }
+{
+    let mut least: u64 = 0;
+    let mut i = 0;
+    while i < addresses.len() {
+        let address = addresses[i];
+        if address < least {
+            return false;
+        }
+        if Region::HEAP_END <= address {
+            return false;
+        }
+        least = address + 1;
+        i += 1;
+    }
+    true
+}
+
+// Is each number at most the limit?
+fn at_most(numbers: &[u64], limit: u64) -> bool
+    ensures { λ r. ⌜ r ≡ every (λ n. leb n limit) (now (numbers .entry)) ⌝ }
+{
+    let mut i = 0;
+    while i < numbers.len() {
+        if limit < numbers[i] {
+            return false;
+        }
+        i += 1;
+    }
+    true
+}
+
+// A tainted number has to be below p.
+fn taint_fits(tainted: bool, number: u64) -> bool
+    ensures { λ r. ⌜ r ≡ (not tainted || ltb number p) ⌝ }
+{
+    if tainted {
+        return number < GoldilocksField::ORDER;
+    }
+    true
+}
+
+// Is each number with a taint of 1 below p?
+fn tainted_below(taints: &[u64], numbers: &[u64]) -> bool
+    ensures { λ r. ⌜ r ≡ taintedBelow (map (λ t. eqb t 1) (now (taints .entry))) (now (numbers .entry)) ⌝ }
+{
+    let mut i = 0;
+    while i < taints.len() {
+        if numbers.len() <= i {
+            return true;
+        }
+        if !taint_fits(taints[i] == 1, numbers[i]) {
+            return false;
+        }
+        i += 1;
+    }
+    true
+}
+
+// Is the number of each register whose bit is set below p?
+fn registers_below(word: u64, registers: [u64; 10]) -> bool
+    ensures { λ r. ⌜ r ≡ taintedBelow (lowBits 10 word) registers ⌝ }
+{
+    let mut bits = word;
+    let mut i = 0;
+    while i < 10 {
+        if !taint_fits(bits % 2 == 1, registers[i]) {
+            return false;
+        }
+        bits = bits / 2;
+        i += 1;
+    }
+    true
+}
+
+// Do the machine and the buffers pass?
+pub fn accepts(
+    machine: Machine,
+    addresses: &[u64],
+    numbers: &[u64],
+    tape: &[u64],
+    output: &[u64],
+) -> bool
+    ensures { λ r. ⌜ r ≡ plainEntry (record { machine = machine; addresses = now (addresses .entry); numbers = now (numbers .entry); tape = now (tape .entry); output = now (output .entry) }) ⌝ }
+{
+    if CLOCK_END <= machine.clk {
+        return false;
+    }
+    if addresses.len() < machine.cell_count {
+        return false;
+    }
+    if tape.len() < machine.tape_count {
+        return false;
+    }
+    if output.len() < machine.output_count {
+        return false;
+    }
+    if numbers.len() != addresses.len() {
+        return false;
+    }
+    if CELL_LIMIT < addresses.len() {
+        return false;
+    }
+    if VALUE_LIMIT < tape.len() {
+        return false;
+    }
+    if VALUE_LIMIT < output.len() {
+        return false;
+    }
+    if !rising(used(addresses, machine.cell_count)) {
+        return false;
+    }
+    at_most(used(numbers, machine.cell_count), GoldilocksField::ORDER)
+}
+
+// Do the taints pass? Bit i of `register_taints` is register i's. Tape and output do not matter.
+pub fn accepts_taints(
+    machine: Machine,
+    register_taints: u64,
+    addresses: &[u64],
+    numbers: &[u64],
+    taints: &[u64],
+) -> bool
+    ensures { λ r. ⌜ ((tape output : List ℕ) → r ≡ taintEntry (record { plain = record { machine = machine; addresses = now (addresses .entry); numbers = now (numbers .entry); tape = tape; output = output }; taints = now (taints .entry); registerTaints = «register_taints» })) ⌝ }
+{
+    if taints.len() != addresses.len() {
+        return false;
+    }
+    if 1024 <= register_taints {
+        return false;
+    }
+    let registers = machine.registers;
+    if !registers_below(register_taints, registers) {
+        return false;
+    }
+    let used_taints = used(taints, machine.cell_count);
+    if !tainted_below(used_taints, used(numbers, machine.cell_count)) {
+        return false;
+    }
+    at_most(used_taints, 1)
+}

@@ -1,0 +1,66 @@
+-- `operands::opcodes::sinks_of` meets its contract, by the opcodes of each arm.
+use mathlib.Core.Path.{refl, sym, ap}
+use mathlib.Core.List.{[], _∷_}
+use borrow.Author.Needs.{needs}
+use Rattle.rules.specs.declared.OlaOpcode.the-variants as O
+use Rattle.rules.specs.Opcodes.{classOf}
+use Rattle.rules.specs.Taint.{sinksOf}
+use Rattle.operands.proofs.ByOpcode.{alike}
+use Rattle.operands.proofs.opcodes.sinks_of.Statement.{statement}
+use Rattle.operands.proofs.opcodes.sinks_of.Tie as tie
+
+enum-told : tie.Need-enum-told
+enum-told c = search needs
+
+enum-told-2 : tie.Need-enum-told-2
+enum-told-2 c = search needs
+
+enum-told-3 : tie.Need-enum-told-3
+enum-told-3 c = search needs
+
+enum-told-4 : tie.Need-enum-told-4
+enum-told-4 c = search needs
+
+returns : tie.Need-returns
+unfolding classOf sinksOf
+returns c = alike (λ o. sinksOf (classOf o)) O.And (O.Or ∷ O.Xor ∷ O.Gte ∷ O.Mload ∷ O.Mstore ∷ O.Tstore ∷ O.Sccall ∷ []) (c .before .args .opcode) (c .match .keys1) refl
+
+returns-2 : tie.Need-returns-2
+unfolding classOf sinksOf
+returns-2 c = alike (λ o. sinksOf (classOf o)) O.Assert (O.Rc ∷ O.Jmp ∷ []) (c .before .args .opcode) (c .match .keys2) refl
+
+returns-3 : tie.Need-returns-3
+unfolding classOf sinksOf
+returns-3 c = sym (ap (λ o. sinksOf (classOf o)) (c .enum-told .given .1))
+
+returns-4 : tie.Need-returns-4
+unfolding classOf sinksOf
+returns-4 c = sym (ap (λ o. sinksOf (classOf o)) (c .enum-told2 .given .1))
+
+returns-5 : tie.Need-returns-5
+unfolding classOf sinksOf
+returns-5 c = sym (ap (λ o. sinksOf (classOf o)) (c .enum-told3 .given .1))
+
+returns-6 : tie.Need-returns-6
+unfolding classOf sinksOf
+returns-6 c = sym (ap (λ o. sinksOf (classOf o)) (c .enum-told4 .given .1))
+
+returns-7 : tie.Need-returns-7
+unfolding classOf sinksOf
+returns-7 c = alike (λ o. sinksOf (classOf o)) O.Add (O.Mul ∷ O.Eq ∷ O.Mov ∷ O.End ∷ O.Not ∷ O.Neq ∷ O.Poseidon ∷ O.Sload ∷ O.Sstore ∷ O.Sigcheck ∷ O.Event ∷ []) (c .before .args .opcode) (c .match .keys7) refl
+
+pub sinks-of-spec : {M : Type 1} → statement M
+sinks-of-spec =
+    tie.close
+    (tie.spec
+    enum-told
+    enum-told-2
+    enum-told-3
+    enum-told-4
+    returns
+    returns-2
+    returns-3
+    returns-4
+    returns-5
+    returns-6
+    returns-7)

@@ -1,0 +1,2 @@
+-- What the contracts cite beside the rules and the program's rows.
+pub mod Meanings
