@@ -1,0 +1,34 @@
+use mathlib.Core.Path.{sym, ap, _∙_}
+use Rattle.rules.specs.Field.{isElement, fieldComplement}
+use Rattle.goldilocks.proofs.Elements.{element, none}
+use Rattle.effects.specs.Effects.{check}
+use borrow.Author.Needs.{needs}
+use Rattle.effects.proofs.arithmetic.complement.Statement.{statement}
+use Rattle.effects.proofs.arithmetic.complement.Tie as tie
+
+complement-requires : tie.Need-complement-requires
+complement-requires c κs = search needs
+
+enum-known-x : tie.Need-enum-known-x
+enum-known-x c = search needs
+
+enum-told : tie.Need-enum-told
+enum-told c = search needs
+
+returns : tie.Need-returns
+unfolding check
+returns c ws = rw (none (isElement (c .before .before .before .args .a)) (fieldComplement (c .before .before .before .args .a)) (sym (c .before .before .complement .ensures) ∙ c .enum-told .given .1))
+
+op1-taint-requires : tie.Need-op1-taint-requires
+op1-taint-requires c κs = search needs
+
+returns-2 : tie.Need-returns-2
+unfolding check
+returns-2 c ws =
+    let e = element (isElement (c .before .before .before .before .before .args .a)) (fieldComplement (c .before .before .before .before .before .args .a)) (c .before .before .x .given .0 .0) (sym (c .before .before .before .before .complement .ensures) ∙ c .before .before .x .given .1) in
+    rw (e .0, ← e .1, ← c .op1-taint .ensures ws)
+
+pub complement-spec : {M : Type 1} → statement M
+complement-spec =
+    tie.close
+    (tie.spec complement-requires enum-known-x enum-told returns op1-taint-requires returns-2)

@@ -1,0 +1,22 @@
+use borrow.Author.Needs.{needs}
+use Rattle.effects.proofs.arithmetic.in_field.Statement.{statement}
+use Rattle.effects.proofs.arithmetic.in_field.Tie as tie
+
+enum-known-result : tie.Need-enum-known-result
+enum-known-result c = search needs
+
+enum-told : tie.Need-enum-told
+enum-told c = search needs
+
+returns : tie.Need-returns
+returns c ws = rw (c .enum-told .given .1)
+
+both-taint-requires : tie.Need-both-taint-requires
+both-taint-requires c κs = search needs
+
+returns-2 : tie.Need-returns-2
+returns-2 c ws = rw (c .before .before .result .given .1, ← c .both-taint .ensures ws)
+
+pub in-field-spec : {M : Type 1} → statement M
+in-field-spec =
+    tie.close (tie.spec enum-known-result enum-told returns both-taint-requires returns-2)

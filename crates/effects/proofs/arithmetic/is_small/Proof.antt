@@ -1,0 +1,11 @@
+use Rattle.rules.specs.Numbers.{smallEnd}
+use mathlib.Core.Path.{refl}
+use Rattle.effects.proofs.arithmetic.is_small.Statement.{statement}
+use Rattle.effects.proofs.arithmetic.is_small.Tie as tie
+
+returns : tie.Need-returns
+unfolding smallEnd
+returns c = refl
+
+pub is-small-spec : {M : Type 1} → statement M
+is-small-spec = tie.close (tie.spec returns)

@@ -1,0 +1,40 @@
+use borrow.Author.Tests.{not-true, not-false}
+use mathlib.Core.Path.{sym, _∙_}
+use Rattle.effects.specs.Effects.{check}
+use borrow.Author.Needs.{needs}
+use Rattle.effects.proofs.arithmetic.small.Statement.{statement}
+use Rattle.effects.proofs.arithmetic.small.Tie as tie
+
+is-small-requires : tie.Need-is-small-requires
+is-small-requires c κs = search needs
+
+returns : tie.Need-returns
+unfolding check
+returns c ws = rw (sym (c .before .is-small .ensures) ∙ not-true _ (c .if1 .taken))
+
+is-small-requires-2 : tie.Need-is-small-requires-2
+is-small-requires-2 c κs = search needs
+
+returns-2 : tie.Need-returns-2
+unfolding check
+returns-2 c ws =
+    rw (sym (c .before .before .before .is-small .ensures) ∙ not-false _ (c .before .before .if1 .left), sym (c .before .is-small2 .ensures) ∙ not-true _ (c .if2 .taken))
+
+both-taint-requires : tie.Need-both-taint-requires
+both-taint-requires c κs = search needs
+
+returns-3 : tie.Need-returns-3
+unfolding check
+returns-3 c ws =
+    rw (sym (c .before .before .before .before .is-small .ensures) ∙ not-false _ (c .before .before .before .if1 .left), sym (c .before .before .is-small2 .ensures) ∙ not-false _ (c .before .if2 .left), ← c .both-taint .ensures ws)
+
+pub small-spec : {M : Type 1} → statement M
+small-spec =
+    tie.close
+    (tie.spec
+    is-small-requires
+    returns
+    is-small-requires-2
+    returns-2
+    both-taint-requires
+    returns-3)

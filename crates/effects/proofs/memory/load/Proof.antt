@@ -1,0 +1,41 @@
+use mathlib.Core.Path.{sym, _∙_}
+use borrow.Author.Needs.{needs}
+use Rattle.effects.proofs.memory.load.Statement.{statement}
+use Rattle.effects.proofs.memory.load.Tie as tie
+
+enum-known-address : tie.Need-enum-known-address
+enum-known-address c = search needs
+
+enum-told : tie.Need-enum-told
+enum-told c = search needs
+
+returns : tie.Need-returns
+returns c = rw (c .enum-told .given .1)
+
+read-requires : tie.Need-read-requires
+read-requires c κs = search needs
+
+enum-known-number : tie.Need-enum-known-number
+enum-known-number c = search needs
+
+enum-told-2 : tie.Need-enum-told-2
+enum-told-2 c = search needs
+
+returns-2 : tie.Need-returns-2
+returns-2 c = rw (c .before .before .before .before .before .address .given .1, sym (c .before .before .before .read .ensures) ∙ c .before .number .given .1)
+
+returns-3 : tie.Need-returns-3
+returns-3 c = rw (c .before .before .before .before .address .given .1, sym (c .before .before .read .ensures) ∙ c .enum-told2 .given .1)
+
+pub load-spec : {M : Type 1} → statement M
+load-spec =
+    tie.close
+    (tie.spec
+    enum-known-address
+    enum-told
+    returns
+    read-requires
+    enum-known-number
+    enum-told-2
+    returns-2
+    returns-3)

@@ -1,0 +1,47 @@
+use mathlib.Core.Path.{sym, _∙_}
+use native.Mathlib.Omega.{arith}
+use Rattle.rules.specs.Numbers.{heapEnd, wordEnd}
+use Rattle.effects.specs.Effects.{check}
+use Rattle.effects.proofs.StoreTests.{passes-below}
+use borrow.Author.Needs.{needs}
+use Rattle.effects.proofs.memory.store_cell.Statement.{statement}
+use Rattle.effects.proofs.memory.store_cell.Tie as tie
+
+test-store-requires : tie.Need-test-store-requires
+test-store-requires c κs = search needs
+
+enum-known-f : tie.Need-enum-known-f
+enum-known-f c = search needs
+
+enum-told : tie.Need-enum-told
+enum-told c = search needs
+
+has-capacity-requires : tie.Need-has-capacity-requires
+unfolding heapEnd wordEnd
+has-capacity-requires c κs =
+    let s = c .before .before .before .before in
+    let k = passes-below (s .args .address) (s .args .number) (sym (c .before .before .test-store .ensures) ∙ c .enum-told .given .1) in
+    (s .pre, omega arith)
+
+returns : tie.Need-returns
+unfolding check
+returns c = rw (sym (c .before .before .before .before .test-store .ensures) ∙ c .before .before .enum-told .given .1, sym (c .before .has-capacity .ensures) ∙ c .if1 .taken)
+
+returns-2 : tie.Need-returns-2
+returns-2 c = rw (sym (c .before .before .before .test-store .ensures) ∙ c .before .f .given .1)
+
+returns-3 : tie.Need-returns-3
+unfolding check
+returns-3 c = rw (sym (c .before .before .before .before .test-store .ensures) ∙ c .before .before .enum-told .given .1, sym (c .before .has-capacity .ensures) ∙ c .if1 .left)
+
+pub store-cell-spec : {M : Type 1} → statement M
+store-cell-spec =
+    tie.close
+    (tie.spec
+    test-store-requires
+    enum-known-f
+    enum-told
+    has-capacity-requires
+    returns
+    returns-2
+    returns-3)

@@ -1,0 +1,89 @@
+use lib.ListN.{length}
+use Rattle.effects.specs.Operations.{testsOf}
+use Rattle.effects.proofs.TapeParts.{part-size, part-between}
+use Prim.Native.Nat.{_+_}
+use mathlib.Core.Path.{sym, ap, _∙_}
+use native.Mathlib.Omega.{arith}
+use borrow.Author.Tests.{leb-false}
+use Rattle.rules.specs.Numbers.{wordEnd}
+use Rattle.effects.specs.Effects.{check}
+use borrow.Author.Needs.{needs}
+use Rattle.effects.proofs.tape.load_part.Statement.{statement}
+use Rattle.effects.proofs.tape.load_part.Tie as tie
+
+reaches-word-end-requires : tie.Need-reaches-word-end-requires
+reaches-word-end-requires c κs = search needs
+
+returns : tie.Need-returns
+unfolding check
+returns c = rw (sym (c .before .reaches-word-end .ensures) ∙ c .if1 .taken)
+
+add-end : tie.Need-add-end
+add-end c = search needs
+
+mul-test-values : tie.Need-mul-test-values
+mul-test-values c = search needs
+
+sub-test-values : tie.Need-sub-test-values
+sub-test-values c = search needs
+
+part-test-values-start : tie.Need-part-test-values-start
+part-test-values-start c = search needs
+
+part-test-values-end : tie.Need-part-test-values-end
+part-test-values-end c = search needs
+
+test-values-requires : tie.Need-test-values-requires
+test-values-requires c κs =
+    let s = c .before .before .before .before .before in
+    let h = leb-false wordEnd (s .args .address + s .args .n) (sym (c .before .before .reaches-word-end .ensures) ∙ c .before .if1 .left) in
+    let k = ap length (part-between (s .args .from) (s .args .n) (s .args .tape .now)) ∙ part-size (s .args .from) (s .args .n) (s .args .tape .now) (s .pre .1) in
+    omega arith
+
+enum-known-f : tie.Need-enum-known-f
+enum-known-f c = search needs
+
+enum-told : tie.Need-enum-told
+enum-told c = search needs
+
+has-capacity-requires : tie.Need-has-capacity-requires
+has-capacity-requires c κs =
+    let s = c .before .before .before .before .before .before .before .before in
+    (s .pre .0, leb-false wordEnd (s .args .address + s .args .n) (sym (c .before .before .before .before .before .reaches-word-end .ensures) ∙ c .before .before .before .before .if1 .left))
+
+returns-2 : tie.Need-returns-2
+unfolding check
+returns-2 c =
+    let s = c .before .before .before .before .before .before .before .before .before .before .args in
+    rw (sym (c .before .before .before .before .before .before .before .reaches-word-end .ensures) ∙ c .before .before .before .before .before .before .if1 .left, ap (testsOf (s .address)) (sym (part-between (s .from) (s .n) (s .tape .now))) ∙ sym (c .before .before .before .before .test-values .ensures) ∙ c .before .before .enum-told .given .1, sym (c .before .has-capacity .ensures) ∙ c .if2 .taken)
+
+returns-3 : tie.Need-returns-3
+unfolding check
+returns-3 c =
+    let s = c .before .before .before .before .before .before .before .before .before .args in
+    rw (sym (c .before .before .before .before .before .before .reaches-word-end .ensures) ∙ c .before .before .before .before .before .if1 .left, ap (testsOf (s .address)) (sym (part-between (s .from) (s .n) (s .tape .now))) ∙ sym (c .before .before .before .test-values .ensures) ∙ c .before .f .given .1)
+
+returns-4 : tie.Need-returns-4
+unfolding check
+returns-4 c =
+    let s = c .before .before .before .before .before .before .before .before .before .before .args in
+    rw (sym (c .before .before .before .before .before .before .before .reaches-word-end .ensures) ∙ c .before .before .before .before .before .before .if1 .left, ap (testsOf (s .address)) (sym (part-between (s .from) (s .n) (s .tape .now))) ∙ sym (c .before .before .before .before .test-values .ensures) ∙ c .before .before .enum-told .given .1, sym (c .before .has-capacity .ensures) ∙ c .if2 .left)
+
+pub load-part-spec : {M : Type 1} → statement M
+load-part-spec =
+    tie.close
+    (tie.spec
+    reaches-word-end-requires
+    returns
+    add-end
+    mul-test-values
+    sub-test-values
+    part-test-values-start
+    part-test-values-end
+    test-values-requires
+    enum-known-f
+    enum-told
+    has-capacity-requires
+    returns-2
+    returns-3
+    returns-4)

@@ -1,0 +1,75 @@
+use Prim.Native.Nat.{_+_}
+use mathlib.Core.Path.{sym, _∙_}
+use native.Mathlib.Omega.{arith}
+use lib.ListN.{length}
+use borrow.Author.Tests.{le-leb, lt-leb}
+use Rattle.effects.specs.Effects.{check, sinkWhere}
+use Rattle.effects.proofs.Spans.{among-within}
+use borrow.Author.Needs.{needs}
+use Rattle.effects.proofs.tape.store_tape.Statement.{statement}
+use Rattle.effects.proofs.tape.store_tape.Tie as tie
+
+find-cells-requires : tie.Need-find-cells-requires
+find-cells-requires c κs = search needs
+
+enum-known-f : tie.Need-enum-known-f
+enum-known-f c = search needs
+
+enum-known-at : tie.Need-enum-known-at
+enum-known-at c = search needs
+
+is-part-tainted-requires : tie.Need-is-part-tainted-requires
+is-part-tainted-requires c κs =
+    λ t.
+    let s = c .before .before .before .before .before .before .before .before in
+    let h = among-within (s .args .count) (s .args .addresses .now) (s .pre .0) (s .args .start) (s .args .n) (c .before .at .given .0 .0) (sym (c .before .at .given .1) ∙ c .before .before .before .find-cells .ensures) in
+    let w = s .pre .0 .within in
+    let k = s .pre .1 .0 t in
+    omega arith
+
+returns : tie.Need-returns
+unfolding sinkWhere
+returns c = rw (sym (c .before .before .before .before .before .find-cells .ensures) ∙ c .before .before .before .at .given .1, sym (c .before .is-part-tainted .ensures) ∙ c .if1 .taken)
+
+sub-if2 : tie.Need-sub-if2
+sub-if2 c = search needs
+
+returns-2 : tie.Need-returns-2
+unfolding sinkWhere check
+returns-2 c =
+    let s = c .before .before .before .before .before .before .before .before .before .before .before .args in
+    rw (sym (c .before .before .before .before .before .before .find-cells .ensures) ∙ c .before .before .before .before .at .given .1, sym (c .before .before .is-part-tainted .ensures) ∙ c .before .if1 .left, lt-leb (s .used + s .n) (length (s .tape .now)) (omega arith))
+
+sub-if3 : tie.Need-sub-if3
+sub-if3 c = search needs
+
+returns-3 : tie.Need-returns-3
+unfolding sinkWhere check
+returns-3 c =
+    let s = c .before .before .before .before .before .before .before .before .before .before .before .before .args in
+    rw (sym (c .before .before .before .before .before .before .before .find-cells .ensures) ∙ c .before .before .before .before .before .at .given .1, sym (c .before .before .before .is-part-tainted .ensures) ∙ c .before .before .if1 .left, le-leb (s .used + s .n) (length (s .tape .now)) (omega arith), lt-leb (s .shown + s .n) (length (s .output .now)) (omega arith))
+
+returns-4 : tie.Need-returns-4
+returns-4 c = rw (sym (c .before .before .before .find-cells .ensures) ∙ c .before .f .given .1)
+
+returns-5 : tie.Need-returns-5
+unfolding sinkWhere check
+returns-5 c =
+    let s = c .before .before .before .before .before .before .before .before .before .before .before .before .args in
+    rw (sym (c .before .before .before .before .before .before .before .find-cells .ensures) ∙ c .before .before .before .before .before .at .given .1, sym (c .before .before .before .is-part-tainted .ensures) ∙ c .before .before .if1 .left, le-leb (s .used + s .n) (length (s .tape .now)) (omega arith), le-leb (s .shown + s .n) (length (s .output .now)) (omega arith))
+
+pub store-tape-spec : {M : Type 1} → statement M
+store-tape-spec =
+    tie.close
+    (tie.spec
+    find-cells-requires
+    enum-known-f
+    enum-known-at
+    is-part-tainted-requires
+    returns
+    sub-if2
+    returns-2
+    sub-if3
+    returns-3
+    returns-4
+    returns-5)

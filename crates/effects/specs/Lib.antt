@@ -1,0 +1,6 @@
+-- What a step looks at, what it decides, and what that does.
+pub mod Modes
+pub mod Views
+pub mod Effects
+pub mod Operations
+pub mod Carrying

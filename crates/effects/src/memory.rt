@@ -1,0 +1,114 @@
+// MLOAD and MSTORE, and the tests of a store.
+use crate::Effect;
+use goldilocks::FieldElement;
+use goldilocks::GoldilocksField;
+use hardware::cells;
+use hardware::cells::Cell;
+use hardware::regions::Region;
+use rules::Refusal;
+ghost use mathlib.Core.Path.{_≡_};
+ghost use Rattle.rules.specs.Step.{isStorable};
+ghost use Rattle.hardware.specs.Buffers.{cellsOf, cellOf, Rising, Ordered};
+ghost use Rattle.effects.specs.Operations.{loadsAt, storesAt, testOf, hasCapacity, storesWhere};
+
+// A store's tests pass, or one refuses.
+pub enum Tested {
+    Passes,
+    Refused(Refusal),
+}
+
+// Can a cell hold a number?
+fn is_storable(n: u64) -> bool
+    ensures { λ r. ⌜ r ≡ isStorable n ⌝ }
+{
+    n <= GoldilocksField::ORDER
+}
+
+// The tests of a store of one number, the number's before the region's.
+pub(crate) fn test_store(address: u64, number: u64) -> Tested
+    ensures { λ r. ⌜ r ≡ testOf address number ⌝ }
+{
+    if !is_storable(number) {
+        return Tested::Refused(Refusal::StoreFault);
+    }
+    match Region::of(address) {
+        Region::Stack => Tested::Passes,
+        Region::Heap => Tested::Passes,
+        Region::Prophet => Tested::Refused(Refusal::ProphetStore),
+        Region::Outside => Tested::Refused(Refusal::StoreFault),
+    }
+}
+
+// One number to one cell, for CALL and MSTORE.
+pub(crate) fn store_cell(
+    addresses: &[u64],
+    count: usize,
+    address: u64,
+    number: u64,
+    taint: bool,
+    next: u64,
+) -> Effect
+    requires { ⌜ Rising count (now addresses) ⌝ }
+    ensures { λ r. ⌜ r ≡ storesWhere (hasCapacity (now (addresses .entry)) count address 1) address number taint next ⌝ }
+{
+    match test_store(address, number) {
+        Tested::Refused(f) => Effect::Refuse(f),
+        Tested::Passes => {
+            if cells::has_capacity(addresses, count, address, 1) {
+                return Effect::Store {
+                    address,
+                    number,
+                    taint,
+                    next,
+                };
+            }
+            Effect::Refuse(Refusal::NoCapacity)
+        }
+    }
+}
+
+// MLOAD, by the sum of its operands.
+pub(crate) fn load(
+    tainted: bool,
+    address: FieldElement,
+    register: usize,
+    next: u64,
+    addresses: &[u64],
+    numbers: &[u64],
+    taints: &[u64],
+    count: usize,
+) -> Effect
+    requires { ⌜ Ordered tainted count (now addresses) (now numbers) (now taints) ⌝ }
+    ensures { λ r. ⌜ r ≡ loadsAt (cellOf tainted (cellsOf count (now (addresses .entry)) (now (numbers .entry))) (cellsOf count (now (addresses .entry)) (now (taints .entry)))) address register next ⌝ }
+{
+    let FieldElement::Element(x) = address else {
+        return Effect::Refuse(Refusal::NotInField);
+    };
+    match cells::read(tainted, addresses, numbers, taints, count, x.value) {
+        Cell::Present { number, tainted } => Effect::SetRegister {
+            register,
+            value: number,
+            taint: tainted,
+            next,
+        },
+        Cell::Absent => Effect::Refuse(Refusal::CellAbsent),
+    }
+}
+
+// MSTORE, by the sum of its operands.
+pub(crate) fn store(
+    address: FieldElement,
+    number: u64,
+    taint: bool,
+    next: u64,
+    addresses: &[u64],
+    count: usize,
+) -> Effect
+    requires { ⌜ Rising count (now addresses) ⌝ }
+    ensures { λ r. ⌜ r ≡ storesAt (now (addresses .entry)) count address number taint next ⌝ }
+{
+    let FieldElement::Element(x) = address else {
+        return Effect::Refuse(Refusal::NotInField);
+    };
+    store_cell(addresses, count, x.value, number, taint, next)
+}

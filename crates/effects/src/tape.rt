@@ -1,0 +1,258 @@
+// TLOAD, TSTORE and SCCALL.
+use crate::Effect;
+use crate::memory;
+use crate::memory::Tested;
+use hardware::cells;
+use hardware::cells::Span;
+use hardware::regions::Region;
+use rules::Refusal;
+ghost use mathlib.Core.Path.{_≡_};
+ghost use mathlib.Core.Bool.{true};
+ghost use Prim.Native.Nat.{_+_, _≤_, _<_};
+ghost use lib.Dec.{leb, eqb};
+ghost use lib.ListN.{length, take};
+ghost use Rattle.rules.specs.declared.Refusal.the-variants.{NoCapacity};
+ghost use Rattle.rules.specs.Numbers.{wordEnd};
+ghost use Rattle.rules.specs.Step.{spanFits};
+ghost use Rattle.hardware.specs.Buffers.{Rising};
+ghost use Rattle.effects.specs.declared.Effect.the-variants.{StoreTape, CallContract};
+ghost use Rattle.effects.specs.Effects.{check, sinkWhere, tapeFrom, tapeCount};
+ghost use Rattle.effects.specs.Operations.{testsOf, hasCapacity, loadsPart, onTapeOf, loadsTape, spanAmong, onSpan, partTaint, more};
+
+// Where a span's first cell is, or its refusal.
+pub enum SpanFound {
+    At(usize),
+    Refused(Refusal),
+}
+
+// Do n numbers from a start on reach 2^64?
+fn reaches_word_end(start: u64, n: u64) -> bool
+    ensures { λ r. ⌜ r ≡ leb wordEnd (start + n) ⌝ }
+{
+    u64::MAX - n < start
+}
+
+// Does a span end before its region's end?
+fn span_fits(start: u64, n: u64) -> bool
+    ensures { λ r. ⌜ r ≡ spanFits start n ⌝ }
+{
+    if reaches_word_end(start, n) {
+        return false;
+    }
+    match Region::of(start) {
+        Region::Stack => start + n < Region::STACK_END,
+        Region::Heap => start + n < Region::HEAP_END,
+        Region::Prophet => start + n < Region::PROPHET_END,
+        Region::Outside => true,
+    }
+}
+
+// The cells of a span: that it fits is tested before that they are present.
+fn find_cells(addresses: &[u64], count: usize, start: u64, n: u64) -> SpanFound
+    requires { ⌜ Rising count (now addresses) ⌝ }
+    ensures { λ r. ⌜ r ≡ spanAmong (take count (now (addresses .entry))) start n ⌝ }
+{
+    if !span_fits(start, n) {
+        return SpanFound::Refused(Refusal::SpanPastRegion);
+    }
+    if Region::PROPHET_END <= start {
+        return SpanFound::Refused(Refusal::CellAbsent);
+    }
+    match cells::find_span(addresses, count, start, n) {
+        Span::At(at) => SpanFound::At(at),
+        Span::Absent => SpanFound::Refused(Refusal::CellAbsent),
+    }
+}
+
+// Is one of the n cells from a place on tainted, in a tainted run?
+fn is_part_tainted(tainted: bool, taints: &[u64], at: usize, n: usize) -> bool
+    requires { ⌜ (tainted ≡ true → at + n ≤ length (now taints)) ⌝ }
+    ensures { λ r. ⌜ r ≡ partTaint tainted (now (taints .entry)) at n ⌝ }
+{
+    if !tainted {
+        return false;
+    }
+    cells::any_tainted(taints, at, n)
+}
+
+// TSTORE: n cells from a start on go to tape and output.
+pub(crate) fn store_tape(
+    tainted: bool,
+    start: u64,
+    n: u64,
+    next: u64,
+    addresses: &[u64],
+    taints: &[u64],
+    count: usize,
+    tape: &[u64],
+    used: usize,
+    output: &[u64],
+    shown: usize,
+) -> Effect
+    requires { ⌜ Rising count (now addresses) ⌝ }
+    requires { ⌜ (tainted ≡ true → length (now taints) ≡ length (now addresses)) ⌝ }
+    requires { ⌜ used ≤ length (now tape) ⌝ }
+    requires { ⌜ shown ≤ length (now output) ⌝ }
+    ensures { λ r. ⌜ r ≡ onSpan (spanAmong (take count (now (addresses .entry))) start n) (λ at. sinkWhere (partTaint tainted (now (taints .entry)) at n) (check (more used n (now (tape .entry))) NoCapacity (check (more shown n (now (output .entry))) NoCapacity (StoreTape at n next)))) ⌝ }
+{
+    match find_cells(addresses, count, start, n) {
+        SpanFound::Refused(f) => Effect::Refuse(f),
+        SpanFound::At(at) => {
+            let length = n as usize;
+            if is_part_tainted(tainted, taints, at, length) {
+                return Effect::Sink;
+            }
+            if tape.len() - used < length {
+                return Effect::Refuse(Refusal::NoCapacity);
+            }
+            if output.len() - shown < length {
+                return Effect::Refuse(Refusal::NoCapacity);
+            }
+            Effect::StoreTape {
+                at,
+                count: length,
+                next,
+            }
+        }
+    }
+}
+
+// SCCALL: the four cells from a start on name the callee; it delegates where op1 is 1.
+pub(crate) fn call_contract(
+    tainted: bool,
+    start: u64,
+    b: u64,
+    next: u64,
+    addresses: &[u64],
+    taints: &[u64],
+    count: usize,
+    tape: &[u64],
+    used: usize,
+) -> Effect
+    requires { ⌜ Rising count (now addresses) ⌝ }
+    requires { ⌜ (tainted ≡ true → length (now taints) ≡ length (now addresses)) ⌝ }
+    requires { ⌜ used ≤ length (now tape) ⌝ }
+    ensures { λ r. ⌜ r ≡ onSpan (spanAmong (take count (now (addresses .entry))) start 4) (λ at. sinkWhere (partTaint tainted (now (taints .entry)) at 4) (check (more used 12 (now (tape .entry))) NoCapacity (CallContract at (eqb b 1) next))) ⌝ }
+{
+    match find_cells(addresses, count, start, 4) {
+        SpanFound::Refused(f) => Effect::Refuse(f),
+        SpanFound::At(at) => {
+            if is_part_tainted(tainted, taints, at, 4) {
+                return Effect::Sink;
+            }
+            if tape.len() - used < 12 {
+                return Effect::Refuse(Refusal::NoCapacity);
+            }
+            Effect::CallContract {
+                at,
+                delegate: b == 1,
+                next,
+            }
+        }
+    }
+}
+
+// Does the tape, of which `used` values are written, have what TLOAD asks for?
+fn is_on_tape(a: u64, b: u64, used: usize) -> bool
+    ensures { λ r. ⌜ r ≡ onTapeOf a b used ⌝ }
+{
+    if a == 0 {
+        return b < used as u64;
+    }
+    if a == 1 {
+        return b <= used as u64;
+    }
+    false
+}
+
+// Where that starts, and how much it is.
+fn tape_from(a: u64, b: u64, used: usize) -> usize
+    requires { ⌜ onTapeOf a b used ≡ true ⌝ }
+    ensures { λ r. ⌜ r ≡ tapeFrom a b used ⌝ }
+{
+    if a == 0 {
+        return b as usize;
+    }
+    used - b as usize
+}
+
+fn tape_count(a: u64, b: u64) -> usize
+    ensures { λ r. ⌜ r ≡ tapeCount a b ⌝ }
+{
+    if a == 0 {
+        return 1;
+    }
+    b as usize
+}
+
+// The tests of a store of values, cell by cell.
+fn test_values(values: &[u64], start: u64) -> Tested
+    requires { ⌜ start + length (now values) < wordEnd ⌝ }
+    ensures { λ r. ⌜ r ≡ testsOf start (now (values .entry)) ⌝ }
+{
+    let mut i = 0;
+    while i < values.len() {
+        if let Tested::Refused(f) = memory::test_store(start + i as u64, values[i]) {
+            return Tested::Refused(f);
+        }
+        i += 1;
+    }
+    Tested::Passes
+}
+
+// n values of the tape from a place on go to the cells from an address on.
+fn load_part(
+    tape: &[u64],
+    from: usize,
+    n: usize,
+    address: u64,
+    addresses: &[u64],
+    count: usize,
+    next: u64,
+) -> Effect
+    requires { ⌜ Rising count (now addresses) ⌝ }
+    requires { ⌜ from + n ≤ length (now tape) ⌝ }
+    ensures { λ r. ⌜ r ≡ loadsPart (now (tape .entry)) from n address (hasCapacity (now (addresses .entry)) count address n) next ⌝ }
+{
+    if reaches_word_end(address, n as u64) {
+        return Effect::Refuse(Refusal::StoreFault);
+    }
+    let end = from + n;
+    match test_values(&tape[from..end], address) {
+        Tested::Refused(f) => Effect::Refuse(f),
+        Tested::Passes => {
+            if cells::has_capacity(addresses, count, address, n) {
+                return Effect::LoadTape {
+                    from,
+                    count: n,
+                    address,
+                    next,
+                };
+            }
+            Effect::Refuse(Refusal::NoCapacity)
+        }
+    }
+}
+
+// TLOAD.
+pub(crate) fn load_tape(
+    a: u64,
+    b: u64,
+    address: u64,
+    tape: &[u64],
+    used: usize,
+    addresses: &[u64],
+    count: usize,
+    next: u64,
+) -> Effect
+    requires { ⌜ Rising count (now addresses) ⌝ }
+    requires { ⌜ used ≤ length (now tape) ⌝ }
+    ensures { λ r. ⌜ r ≡ loadsTape a b (now (tape .entry)) used address (hasCapacity (now (addresses .entry)) count address (tapeCount a b)) next ⌝ }
+{
+    if !is_on_tape(a, b, used) {
+        return Effect::Refuse(Refusal::TapeFault);
+    }
+    let from = tape_from(a, b, used);
+    let n = tape_count(a, b);
+    load_part(tape, from, n, address, addresses, count, next)
+}
