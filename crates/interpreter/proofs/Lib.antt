@@ -1,0 +1,9 @@
+-- Laws of the loop, and for the crates above what a run gives by its mode.
+pub mod Parts
+pub mod Fitting
+pub mod Holding
+pub mod Arms
+pub mod Turning
+pub mod Leaving
+pub mod Running
+pub mod BothRuns

@@ -1,0 +1,271 @@
+// Effects carried out. Buffers are written by the functions of `hardware` alone.
+use crate::Finish;
+use crate::Stepped;
+use effects::Counts;
+use effects::Effect;
+use effects::Mode;
+use rules::Answer;
+ghost use mathlib.Core.Path.{_≡_};
+ghost use mathlib.Core.List.{_++_};
+ghost use Prim.Native.Nat.{ℕ, _+_, _≤_, _<_};
+ghost use lib.ListN.{length, take};
+ghost use Rattle.rules.specs.Numbers.{heapEnd};
+ghost use Rattle.rules.specs.Cells as Cells;
+ghost use Rattle.rules.specs.Step.{overlay};
+ghost use Rattle.rules.specs.Taint.{cleanMany};
+ghost use Rattle.hardware.specs.Buffers.{cellsOf, putMany, Ordered, Holding};
+ghost use Rattle.effects.specs.Carrying.{part, callValues};
+ghost use Rattle.interpreter.specs.Cores.{coreOf};
+ghost use Rattle.interpreter.specs.Steps.{callAnswer, taintsAfter, coreAfter, Carriable, CarriedOut};
+
+// The registers' taints after one register was written; in a plain run they rest.
+fn taints_after(mode: Mode, register: usize, taint: bool) -> u64
+    requires { ⌜ mode .«register_taints» < 1024 ⌝ }
+    requires { ⌜ register < 10 ⌝ }
+    ensures { λ r. ⌜ r ≡ taintsAfter mode register taint ⌝ }
+{
+    if mode.tainted {
+        return operands::taints::with_taint(mode.register_taints, register, taint);
+    }
+    mode.register_taints
+}
+
+// Tape values to cells; how many cells are used afterwards.
+fn load_tape(
+    tainted: bool,
+    addresses: &mut [u64],
+    numbers: &mut [u64],
+    taints: &mut [u64],
+    count: usize,
+    tape: &[u64],
+    from: usize,
+    n: usize,
+    address: u64,
+) -> usize
+    requires { ⌜ Ordered tainted count (now addresses) (now numbers) (now taints) ⌝ }
+    requires { ⌜ from + n ≤ length (now tape) ⌝ }
+    requires { ⌜ (0 < n → address + n ≤ heapEnd) ⌝ }
+    requires { ⌜ Cells.count (putMany (cellsOf count (now addresses) (now numbers)) address (part from n (now tape))) ≤ length (now addresses) ⌝ }
+    ensures { λ r. ⌜ Holding tainted (putMany (cellsOf count (now (addresses .entry)) (now (numbers .entry))) address (part from n (now (tape .entry)))) (cleanMany (Cells.cells ℕ) (cellsOf count (now (addresses .entry)) (now (taints .entry))) address (part from n (now (tape .entry)))) r (now (addresses .entry)) (now (numbers .entry)) (now (taints .entry)) (now (addresses .exit)) (now (numbers .exit)) (now (taints .exit)) ⌝ }
+{
+    let end = from + n;
+    hardware::cells::store_many(
+        tainted,
+        addresses,
+        numbers,
+        taints,
+        count,
+        address,
+        &tape[from..end],
+    )
+}
+
+// The numbers of cells to tape or output, behind its first `count` values.
+fn append_numbers(buffer: &mut [u64], count: usize, numbers: &[u64], at: usize, n: usize)
+    requires { ⌜ at + n ≤ length (now numbers) ⌝ }
+    requires { ⌜ count + n ≤ length (now buffer) ⌝ }
+    ensures { λ _. ⌜ now (buffer .exit) ≡ overlay (take count (now (buffer .entry)) ++ part at n (now (numbers .entry))) (now (buffer .entry)) ⌝ }
+{
+    let end = at + n;
+    hardware::tape::write_values(&mut buffer[count..], &numbers[at..end]);
+}
+
+// The twelve words that a call leaves on the tape.
+fn call_values(storage_addr: [u64; 4], callee: [u64; 4], delegate: bool) -> [u64; 12]
+    ensures { λ r. ⌜ r ≡ callValues «storage_addr» callee delegate ⌝ }
+{
+    let s0 = storage_addr[0];
+    let s1 = storage_addr[1];
+    let s2 = storage_addr[2];
+    let s3 = storage_addr[3];
+    let c0 = callee[0];
+    let c1 = callee[1];
+    let c2 = callee[2];
+    let c3 = callee[3];
+    if delegate {
+        return [s0, s1, s2, s3, c0, c1, c2, c3, s0, s1, s2, s3];
+    }
+    [s0, s1, s2, s3, c0, c1, c2, c3, c0, c1, c2, c3]
+}
+
+// A call: its words go to the tape, behind the first `count` values; the answer names the callee.
+fn call_contract(
+    storage_addr: [u64; 4],
+    numbers: &[u64],
+    at: usize,
+    delegate: bool,
+    tape: &mut [u64],
+    count: usize,
+) -> Answer
+    requires { ⌜ at + 4 ≤ length (now numbers) ⌝ }
+    requires { ⌜ count + 12 ≤ length (now tape) ⌝ }
+    ensures { λ r. ⌜ r ≡ callAnswer delegate (part at 4 (now (numbers .entry))) ⌝ }
+    ensures { λ _. ⌜ now (tape .exit) ≡ overlay (take count (now (tape .entry)) ++ callValues «storage_addr» (part at 4 (now (numbers .entry))) delegate) (now (tape .entry)) ⌝ }
+{
+    let c0 = numbers[at];
+    let c1 = numbers[at + 1];
+    let c2 = numbers[at + 2];
+    let c3 = numbers[at + 3];
+    let values = call_values(storage_addr, [c0, c1, c2, c3], delegate);
+    hardware::tape::write_values(&mut tape[count..], &values);
+    if delegate {
+        return Answer::DelegateCalling(c0, c1, c2, c3);
+    }
+    Answer::Calling(c0, c1, c2, c3)
+}
+
+// Carries an effect out: registers and buffers are changed in place, the rest is handed back.
+pub(crate) fn carry_out(
+    effect: Effect,
+    mode: Mode,
+    registers: &mut [u64; 10],
+    pc: u64,
+    clk: u64,
+    storage_addr: [u64; 4],
+    counts: Counts,
+    addresses: &mut [u64],
+    numbers: &mut [u64],
+    taints: &mut [u64],
+    tape: &mut [u64],
+    output: &mut [u64],
+) -> Stepped
+    requires { ⌜ Carriable effect (coreOf mode (now registers) pc clk counts (now addresses) (now numbers) (now taints) (now tape) (now output)) ⌝ }
+    ensures { λ r. ⌜ CarriedOut «storage_addr» effect (coreOf mode (now (registers .entry)) pc clk counts (now (addresses .entry)) (now (numbers .entry)) (now (taints .entry)) (now (tape .entry)) (now (output .entry))) (r .finish) (coreAfter mode r (now (registers .exit)) (now (addresses .exit)) (now (numbers .exit)) (now (taints .exit)) (now (tape .exit)) (now (output .exit))) ⌝ }
+{
+    let next_clk = clk + 1;
+    let register_taints = mode.register_taints;
+    match effect {
+        Effect::SetRegister {
+            register,
+            value,
+            taint,
+            next,
+        } => {
+            registers[register] = value;
+            Stepped {
+                pc: next,
+                clk: next_clk,
+                counts: counts,
+                register_taints: taints_after(mode, register, taint),
+                finish: Finish::GoesOn,
+            }
+        }
+        Effect::Store {
+            address,
+            number,
+            taint,
+            next,
+        } => {
+            let cells = hardware::cells::store(
+                mode.tainted,
+                addresses,
+                numbers,
+                taints,
+                counts.cells,
+                address,
+                number,
+                taint,
+            );
+            Stepped {
+                pc: next,
+                clk: next_clk,
+                counts: Counts {
+                    cells: cells,
+                    tape: counts.tape,
+                    output: counts.output,
+                },
+                register_taints: register_taints,
+                finish: Finish::GoesOn,
+            }
+        }
+        Effect::Jump { next } => Stepped {
+            pc: next,
+            clk: next_clk,
+            counts: counts,
+            register_taints: register_taints,
+            finish: Finish::GoesOn,
+        },
+        Effect::LoadTape {
+            from,
+            count,
+            address,
+            next,
+        } => {
+            let cells = load_tape(
+                mode.tainted,
+                addresses,
+                numbers,
+                taints,
+                counts.cells,
+                tape,
+                from,
+                count,
+                address,
+            );
+            Stepped {
+                pc: next,
+                clk: next_clk,
+                counts: Counts {
+                    cells: cells,
+                    tape: counts.tape,
+                    output: counts.output,
+                },
+                register_taints: register_taints,
+                finish: Finish::GoesOn,
+            }
+        }
+        Effect::StoreTape { at, count, next } => {
+            append_numbers(tape, counts.tape, numbers, at, count);
+            append_numbers(output, counts.output, numbers, at, count);
+            let tape_count = counts.tape + count;
+            let output_count = counts.output + count;
+            Stepped {
+                pc: next,
+                clk: next_clk,
+                counts: Counts {
+                    cells: counts.cells,
+                    tape: tape_count,
+                    output: output_count,
+                },
+                register_taints: register_taints,
+                finish: Finish::GoesOn,
+            }
+        }
+        Effect::CallContract { at, delegate, next } => {
+            let answer = call_contract(storage_addr, numbers, at, delegate, tape, counts.tape);
+            let tape_count = counts.tape + 12;
+            Stepped {
+                pc: next,
+                clk: next_clk,
+                counts: Counts {
+                    cells: counts.cells,
+                    tape: tape_count,
+                    output: 0,
+                },
+                register_taints: register_taints,
+                finish: Finish::Leaves(answer),
+            }
+        }
+        Effect::End { next } => Stepped {
+            pc: next,
+            clk: next_clk,
+            counts: counts,
+            register_taints: register_taints,
+            finish: Finish::Leaves(Answer::Ended),
+        },
+        Effect::Refuse(refusal) => Stepped {
+            pc: pc,
+            clk: clk,
+            counts: counts,
+            register_taints: register_taints,
+            finish: Finish::Refuses(Answer::Refused(refusal)),
+        },
+        Effect::Sink => Stepped {
+            pc: pc,
+            clk: clk,
+            counts: counts,
+            register_taints: register_taints,
+            finish: Finish::Refuses(Answer::TaintedSink),
+        },
+    }
+}
