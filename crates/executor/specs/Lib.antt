@@ -1,0 +1,2 @@
+-- What the contracts of `executor` cite beside the rules.
+pub mod Calling

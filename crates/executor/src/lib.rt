@@ -1,0 +1,222 @@
+// The plain machine's public functions, on programs as bare words, as text, and as text with a budget line. Each takes any arguments,
+// checks them, and answers; a call refused at entry leaves everything handed in.
+use effects::Mode;
+use hardware::regions::Region;
+use hexadecimal::Put;
+use program::binary_program::Checked;
+use program::table;
+use program_text::LoadedJob;
+use program_text::LoadedText;
+use rules::Answer;
+use rules::Machine;
+use rules::Refusal;
+ghost use mathlib.Core.Path.{_≡_};
+ghost use Rattle.rules.specs.declared.Answer.the-variants.{Refused};
+ghost use Rattle.rules.specs.Results.{pass};
+ghost use Rattle.rules.specs.Calls.{plainCall, plainWords, plainText, plainBudgetText};
+ghost use Rattle.rules.specs.Solve.{solveStart, solve};
+ghost use Rattle.hexadecimal.specs.Writing.{Writes};
+ghost use Rattle.program.specs.Rows.{programOf};
+ghost use Rattle.interpreter.specs.Runs.{Loaded};
+ghost use Rattle.executor.specs.Calling.{snapshot, called};
+
+// A call's answer, its steps, and the machine that it leaves.
+pub struct Called {
+    pub answer: Answer,
+    pub steps: u64,
+    pub machine: Machine,
+}
+
+// A call refused at entry.
+fn refuse(machine: Machine, refusal: Refusal) -> Called
+    ensures { λ r. ⌜ r ≡ record { answer = Refused refusal; steps = 0; machine = machine } ⌝ }
+{
+    Called {
+        answer: Answer::Refused(refusal),
+        steps: 0,
+        machine,
+    }
+}
+
+// Runs a loaded program, if the state is fit.
+fn enter(
+    words: &[u64],
+    rows: &[u64; 1024],
+    budget: u64,
+    machine: Machine,
+    addresses: &mut [u64],
+    numbers: &mut [u64],
+    tape: &mut [u64],
+    output: &mut [u64],
+) -> Called
+    requires { ⌜ Loaded (now words) (now rows) ⌝ }
+    ensures { λ r. ⌜ called r (now (addresses .exit)) (now (numbers .exit)) (now (tape .exit)) (now (output .exit)) ≡ plainCall (pass (programOf (now (words .entry)))) budget (snapshot machine (now (addresses .entry)) (now (numbers .entry)) (now (tape .entry)) (now (output .entry))) ⌝ }
+{
+    if entry::accepts(machine, addresses, numbers, tape, output) {
+        let mut none = [0u64; 1];
+        let mode = Mode {
+            tainted: false,
+            register_taints: 0,
+        };
+        let ran = interpreter::run(
+            mode,
+            machine,
+            words,
+            rows,
+            budget,
+            addresses,
+            numbers,
+            &mut none[..0],
+            tape,
+            output,
+        );
+        let answer = ran.answer;
+        let left = ran.machine;
+        return Called {
+            answer,
+            steps: ran.steps,
+            machine: left,
+        };
+    }
+    refuse(machine, Refusal::BadState)
+}
+
+// Runs a program of bare words.
+pub fn run_words(
+    words: &[u64],
+    budget: u64,
+    machine: Machine,
+    addresses: &mut [u64],
+    numbers: &mut [u64],
+    tape: &mut [u64],
+    output: &mut [u64],
+) -> Called
+    ensures { λ r. ⌜ called r (now (addresses .exit)) (now (numbers .exit)) (now (tape .exit)) (now (output .exit)) ≡ plainWords (now (words .entry)) budget (snapshot machine (now (addresses .entry)) (now (numbers .entry)) (now (tape .entry)) (now (output .entry))) ⌝ }
+{
+    let mut rows = [0u64; 1024];
+    match table::load_words(words, &mut rows) {
+        Checked::Frames(_) => enter(
+            words,
+            &rows,
+            budget,
+            machine,
+            addresses,
+            numbers,
+            tape,
+            output,
+        ),
+        Checked::Refused(refusal) => refuse(machine, refusal),
+    }
+}
+
+// Takes one step of a program of bare words.
+pub fn step_words(
+    words: &[u64],
+    machine: Machine,
+    addresses: &mut [u64],
+    numbers: &mut [u64],
+    tape: &mut [u64],
+    output: &mut [u64],
+) -> Called
+    ensures { λ r. ⌜ called r (now (addresses .exit)) (now (numbers .exit)) (now (tape .exit)) (now (output .exit)) ≡ plainWords (now (words .entry)) 1 (snapshot machine (now (addresses .entry)) (now (numbers .entry)) (now (tape .entry)) (now (output .entry))) ⌝ }
+{
+    run_words(words, 1, machine, addresses, numbers, tape, output)
+}
+
+// Runs a program as text.
+pub fn run_text(
+    text: &[u8],
+    budget: u64,
+    machine: Machine,
+    addresses: &mut [u64],
+    numbers: &mut [u64],
+    tape: &mut [u64],
+    output: &mut [u64],
+) -> Called
+    ensures { λ r. ⌜ called r (now (addresses .exit)) (now (numbers .exit)) (now (tape .exit)) (now (output .exit)) ≡ plainText (now (text .entry)) budget (snapshot machine (now (addresses .entry)) (now (numbers .entry)) (now (tape .entry)) (now (output .entry))) ⌝ }
+{
+    let mut words = [0u64; 2048];
+    match program_text::load_text(text, &mut words) {
+        LoadedText::Frames {
+            frames: _,
+            words: count,
+        } => run_words(
+            &words[..count],
+            budget,
+            machine,
+            addresses,
+            numbers,
+            tape,
+            output,
+        ),
+        LoadedText::Refused(refusal) => refuse(machine, refusal),
+    }
+}
+
+// Runs a program as text with a budget line.
+pub fn run_budget_text(
+    text: &[u8],
+    machine: Machine,
+    addresses: &mut [u64],
+    numbers: &mut [u64],
+    tape: &mut [u64],
+    output: &mut [u64],
+) -> Called
+    ensures { λ r. ⌜ called r (now (addresses .exit)) (now (numbers .exit)) (now (tape .exit)) (now (output .exit)) ≡ plainBudgetText (now (text .entry)) (snapshot machine (now (addresses .entry)) (now (numbers .entry)) (now (tape .entry)) (now (output .entry))) ⌝ }
+{
+    let mut words = [0u64; 2048];
+    match program_text::load_budget_text(text, &mut words) {
+        LoadedJob::Job {
+            budget,
+            frames: _,
+            words: count,
+        } => run_words(
+            &words[..count],
+            budget,
+            machine,
+            addresses,
+            numbers,
+            tape,
+            output,
+        ),
+        LoadedJob::Refused(refusal) => refuse(machine, refusal),
+    }
+}
+
+// Where `solve` starts: all zero, nothing used, the PSP of a default memory.
+fn start() -> Machine
+    ensures { λ r. ⌜ r ≡ solveStart .machine ⌝ }
+{
+    Machine {
+        registers: [0; 10],
+        pc: 0,
+        clk: 0,
+        psp: Region::HEAP_END,
+        storage_addr: [0; 4],
+        cell_count: 0,
+        tape_count: 0,
+        output_count: 0,
+    }
+}
+
+// The whole of `solve`: from its input, a budget line and frames, to the lines that it prints, which are written into the caller's
+// buffer; nothing is written where they do not fit.
+pub fn solve(input: &[u8], lines: &mut [u8]) -> Put
+    ensures { λ r. ⌜ Writes (solve (now (input .entry))) (now (lines .entry)) 0 r (now (lines .exit)) ⌝ }
+{
+    let mut addresses = [0u64; 2048];
+    let mut numbers = [0u64; 2048];
+    let mut tape = [0u64; 4096];
+    let mut output = [0u64; 4096];
+    let called = run_budget_text(
+        input,
+        start(),
+        &mut addresses,
+        &mut numbers,
+        &mut tape,
+        &mut output,
+    );
+    let answer = called.answer;
+    let machine = called.machine;
+    report::print(answer, called.steps, machine, &output, lines)
+}

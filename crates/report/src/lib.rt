@@ -1,0 +1,51 @@
+// What a caller is shown of a call: the used output, kilosteps, and the lines that `solve` prints.
+//
+// Public: `used_output`, `kilosteps`, `print`.
+mod label;
+mod lines;
+
+use hexadecimal::Put;
+use rules::Answer;
+use rules::Machine;
+ghost use mathlib.Core.Path.{_≡_};
+ghost use lib.ListN.{take};
+ghost use Rattle.rules.specs.Solve.{printed, kilosteps};
+ghost use Rattle.hexadecimal.specs.Writing.{Writes};
+ghost use Rattle.report.specs.Lines.{reported};
+
+// The used part of the caller's output, as a part of it; all of it where the count is above its length.
+pub fn used_output(output: &[u64], count: usize) -> &[u64]
+    ensures { λ r. ⌜ now r ≡ take count (now (output .entry)) ⌝ }
+{
+    if count <= output.len() {
+        &output[..count]
+    } else {
+        output
+    }
+}
+
+// clk / 1000, to nearest, half up, for every word.
+pub fn kilosteps(clk: u64) -> u64
+    ensures { λ r. ⌜ r ≡ kilosteps clk ⌝ }
+{
+    if clk % 1000 < 500 {
+        clk / 1000
+    } else {
+        clk / 1000 + 1
+    }
+}
+
+// Writes the lines that `solve` prints of a call, from the buffer's start on; where they do not fit, nothing is written. A call
+// refused at entry shows zeros and no output.
+pub fn print(answer: Answer, steps: u64, machine: Machine, output: &[u64], buffer: &mut [u8]) -> Put
+    ensures { λ r. ⌜ Writes (printed (reported answer steps machine (now (output .entry)))) (now (buffer .entry)) 0 r (now (buffer .exit)) ⌝ }
+{
+    let label = label::label_of(answer);
+    if label::is_entry_refusal(label) {
+        return lines::put_lines(buffer, label, 0, 0, 0, used_output(output, 0));
+    }
+    let pc = machine.pc;
+    let clk = machine.clk;
+    let count = machine.output_count;
+    lines::put_lines(buffer, label, steps, pc, clk, used_output(output, count))
+}
