@@ -1,0 +1,3 @@
+-- Laws of the calls, and demand 3.
+pub mod Answered
+pub mod NonInterferenceHolds

@@ -1,0 +1,15 @@
+-- Demand 3 of this crate's public functions: of the definition that each one's contract names.
+use Prim.Native.Nat.{ℕ}
+use mathlib.Core.List.{List}
+use Rattle.rules.specs.Frames.{loadWords}
+use Rattle.rules.specs.Text.{loadText, loadBudgetText}
+use Rattle.rules.specs.Calls.{jobBudget, jobProgram, plainCall, plainWords, plainText, taintedWords, taintedText, taintedBudgetText}
+use Rattle.rules.specs.NonInterference.{NonInterference}
+
+-- a text with a budget line has its own budget; beside it the plain calls of its program have any
+pub record NonInterfering : Type 0 where
+  pub runWords : (words : List ℕ) (budget : ℕ) → NonInterference (loadWords words) budget (taintedWords words budget) (plainWords words)
+  pub stepWords : (words : List ℕ) → NonInterference (loadWords words) 1 (taintedWords words 1) (plainWords words)
+  pub runText : (text : List ℕ) (budget : ℕ) → NonInterference (loadText text) budget (taintedText text budget) (plainText text)
+  pub runBudgetText : (text : List ℕ)
+      → NonInterference (jobProgram (loadBudgetText text)) (jobBudget (loadBudgetText text)) (taintedBudgetText text) (plainCall (jobProgram (loadBudgetText text)))

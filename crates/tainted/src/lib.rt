@@ -1,0 +1,243 @@
+// The tainted machine's public functions: the guarded run of document 01, on programs as bare words, as text, and as text with a budget
+// line. Each takes any arguments, checks them, and answers; a call refused at entry leaves everything handed in.
+//
+// Demand 3 is `NonInterfering` (specs/NonInterference.antt, proved in proofs/NonInterferenceHolds.antt): one theorem about whole calls,
+// entry refusals included, of the definition that each function's contract names. Its three parts:
+// - two calls that start alike but for their tainted numbers, each below p, give the same answer after the same steps and end alike;
+// - a call that does not meet refusal 18 is the plain call, and one that meets it after k steps leaves what the plain call with budget k
+//   leaves, which is e3 after k steps;
+// - 18 comes after k steps exactly where the step that follows them reaches a sink with a tainted number.
+// It says nothing of time, nor of which places of memory are touched; the number of steps is public.
+use effects::Mode;
+use program::binary_program::Checked;
+use program::table;
+use program_text::LoadedJob;
+use program_text::LoadedText;
+use rules::Answer;
+use rules::Machine;
+use rules::Refusal;
+ghost use mathlib.Core.Path.{_≡_};
+ghost use Rattle.rules.specs.declared.Answer.the-variants.{Refused};
+ghost use Rattle.rules.specs.Results.{pass};
+ghost use Rattle.rules.specs.Entry.{taintedEntry};
+ghost use Rattle.rules.specs.Calls.{taintedCall, taintedWords, taintedText, taintedBudgetText};
+ghost use Rattle.program.specs.Rows.{programOf};
+ghost use Rattle.interpreter.specs.Runs.{Loaded};
+ghost use Rattle.tainted.specs.Calling.{snapshot, called};
+
+// A call's answer, its steps, and the machine and the registers' taints that it leaves.
+pub struct Called {
+    pub answer: Answer,
+    pub steps: u64,
+    pub machine: Machine,
+    pub register_taints: u64,
+}
+
+// A call refused at entry.
+fn refuse(machine: Machine, register_taints: u64, refusal: Refusal) -> Called
+    ensures { λ r. ⌜ r ≡ record { answer = Refused refusal; steps = 0; machine = machine; «register_taints» = «register_taints» } ⌝ }
+{
+    Called {
+        answer: Answer::Refused(refusal),
+        steps: 0,
+        machine,
+        register_taints,
+    }
+}
+
+// Is the state fit, and are the taints?
+fn accepts(
+    machine: Machine,
+    register_taints: u64,
+    addresses: &[u64],
+    numbers: &[u64],
+    taints: &[u64],
+    tape: &[u64],
+    output: &[u64],
+) -> bool
+    ensures { λ r. ⌜ r ≡ taintedEntry (snapshot machine «register_taints» (now (addresses .entry)) (now (numbers .entry)) (now (taints .entry)) (now (tape .entry)) (now (output .entry))) ⌝ }
+{
+    if entry::accepts(machine, addresses, numbers, tape, output) {
+        return entry::accepts_taints(machine, register_taints, addresses, numbers, taints);
+    }
+    false
+}
+
+// Runs a loaded program, if the state is fit.
+fn enter(
+    words: &[u64],
+    rows: &[u64; 1024],
+    budget: u64,
+    machine: Machine,
+    register_taints: u64,
+    addresses: &mut [u64],
+    numbers: &mut [u64],
+    taints: &mut [u64],
+    tape: &mut [u64],
+    output: &mut [u64],
+) -> Called
+    requires { ⌜ Loaded (now words) (now rows) ⌝ }
+    ensures { λ r. ⌜ called r (now (addresses .exit)) (now (numbers .exit)) (now (taints .exit)) (now (tape .exit)) (now (output .exit)) ≡ taintedCall (pass (programOf (now (words .entry)))) budget (snapshot machine «register_taints» (now (addresses .entry)) (now (numbers .entry)) (now (taints .entry)) (now (tape .entry)) (now (output .entry))) ⌝ }
+{
+    if accepts(
+        machine,
+        register_taints,
+        addresses,
+        numbers,
+        taints,
+        tape,
+        output,
+    ) {
+        let mode = Mode {
+            tainted: true,
+            register_taints,
+        };
+        let ran = interpreter::run(
+            mode,
+            machine,
+            words,
+            rows,
+            budget,
+            addresses,
+            numbers,
+            taints,
+            tape,
+            output,
+        );
+        let answer = ran.answer;
+        let left = ran.machine;
+        return Called {
+            answer,
+            steps: ran.steps,
+            machine: left,
+            register_taints: ran.register_taints,
+        };
+    }
+    refuse(machine, register_taints, Refusal::BadState)
+}
+
+// Runs a program of bare words.
+pub fn run_words(
+    words: &[u64],
+    budget: u64,
+    machine: Machine,
+    register_taints: u64,
+    addresses: &mut [u64],
+    numbers: &mut [u64],
+    taints: &mut [u64],
+    tape: &mut [u64],
+    output: &mut [u64],
+) -> Called
+    ensures { λ r. ⌜ called r (now (addresses .exit)) (now (numbers .exit)) (now (taints .exit)) (now (tape .exit)) (now (output .exit)) ≡ taintedWords (now (words .entry)) budget (snapshot machine «register_taints» (now (addresses .entry)) (now (numbers .entry)) (now (taints .entry)) (now (tape .entry)) (now (output .entry))) ⌝ }
+{
+    let mut rows = [0u64; 1024];
+    match table::load_words(words, &mut rows) {
+        Checked::Frames(_) => enter(
+            words,
+            &rows,
+            budget,
+            machine,
+            register_taints,
+            addresses,
+            numbers,
+            taints,
+            tape,
+            output,
+        ),
+        Checked::Refused(refusal) => refuse(machine, register_taints, refusal),
+    }
+}
+
+// Takes one step of a program of bare words.
+pub fn step_words(
+    words: &[u64],
+    machine: Machine,
+    register_taints: u64,
+    addresses: &mut [u64],
+    numbers: &mut [u64],
+    taints: &mut [u64],
+    tape: &mut [u64],
+    output: &mut [u64],
+) -> Called
+    ensures { λ r. ⌜ called r (now (addresses .exit)) (now (numbers .exit)) (now (taints .exit)) (now (tape .exit)) (now (output .exit)) ≡ taintedWords (now (words .entry)) 1 (snapshot machine «register_taints» (now (addresses .entry)) (now (numbers .entry)) (now (taints .entry)) (now (tape .entry)) (now (output .entry))) ⌝ }
+{
+    run_words(
+        words,
+        1,
+        machine,
+        register_taints,
+        addresses,
+        numbers,
+        taints,
+        tape,
+        output,
+    )
+}
+
+// Runs a program as text.
+pub fn run_text(
+    text: &[u8],
+    budget: u64,
+    machine: Machine,
+    register_taints: u64,
+    addresses: &mut [u64],
+    numbers: &mut [u64],
+    taints: &mut [u64],
+    tape: &mut [u64],
+    output: &mut [u64],
+) -> Called
+    ensures { λ r. ⌜ called r (now (addresses .exit)) (now (numbers .exit)) (now (taints .exit)) (now (tape .exit)) (now (output .exit)) ≡ taintedText (now (text .entry)) budget (snapshot machine «register_taints» (now (addresses .entry)) (now (numbers .entry)) (now (taints .entry)) (now (tape .entry)) (now (output .entry))) ⌝ }
+{
+    let mut words = [0u64; 2048];
+    match program_text::load_text(text, &mut words) {
+        LoadedText::Frames {
+            frames: _,
+            words: count,
+        } => run_words(
+            &words[..count],
+            budget,
+            machine,
+            register_taints,
+            addresses,
+            numbers,
+            taints,
+            tape,
+            output,
+        ),
+        LoadedText::Refused(refusal) => refuse(machine, register_taints, refusal),
+    }
+}
+
+// Runs a program as text with a budget line.
+pub fn run_budget_text(
+    text: &[u8],
+    machine: Machine,
+    register_taints: u64,
+    addresses: &mut [u64],
+    numbers: &mut [u64],
+    taints: &mut [u64],
+    tape: &mut [u64],
+    output: &mut [u64],
+) -> Called
+    ensures { λ r. ⌜ called r (now (addresses .exit)) (now (numbers .exit)) (now (taints .exit)) (now (tape .exit)) (now (output .exit)) ≡ taintedBudgetText (now (text .entry)) (snapshot machine «register_taints» (now (addresses .entry)) (now (numbers .entry)) (now (taints .entry)) (now (tape .entry)) (now (output .entry))) ⌝ }
+{
+    let mut words = [0u64; 2048];
+    match program_text::load_budget_text(text, &mut words) {
+        LoadedJob::Job {
+            budget,
+            frames: _,
+            words: count,
+        } => run_words(
+            &words[..count],
+            budget,
+            machine,
+            register_taints,
+            addresses,
+            numbers,
+            taints,
+            tape,
+            output,
+        ),
+        LoadedJob::Refused(refusal) => refuse(machine, register_taints, refusal),
+    }
+}
