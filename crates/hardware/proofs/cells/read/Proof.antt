@@ -18,49 +18,56 @@ enum-known-at c = search needs
 
 -- the place that was found
 module _ (c : tie.After-at) where
+  abbrev entry : tie.Start
+  entry = c .before .before .before .before .before .before
+
   abbrev place : ℕ
   place = c .at .given .0 .0
 
-  found-at-place : foundOf (take (c .before .before .before .before .before .before .args .count) (c .before .before .before .before .before .before .args .addresses .now)) (c .before .before .before .before .before .before .args .address) ≡ At place
-  found-at-place = sym (c .before .before .find .ensures) ∙ c .at .given .1
+  at-place : foundOf (take (entry .args .count) (entry .args .addresses .now)) (entry .args .address) ≡ At place
+  at-place = sym (c .before .before .find .ensures) ∙ c .at .given .1
 
-  place-used : place < c .before .before .before .before .before .before .args .count
-  place-used =
-      let s = c .before .before .before .before .before .before in
-      place-below (s .args .count) (s .args .addresses .now) (s .pre .addresses) (s .args .address) place found-at-place
+  place-used : place < entry .args .count
+  place-used = place-below (entry .args .count) (entry .args .addresses .now) (entry .pre .addresses) (entry .args .address) place at-place
 
 mul-t14 : tie.Need-mul-t14
-mul-t14 c = omega (arith, place-used (c .before), c .before .before .before .before .before .before .before .pre, c .before .before .before .before .before .before .before .good)
+mul-t14 c = let f = c .before in omega (arith, place-used f, entry f .pre, entry f .good)
 
 shared-slice-read-t16 : tie.Need-shared-slice-read-t16
-shared-slice-read-t16 c = omega (arith, place-used (c .before .before), c .before .before .before .before .before .before .before .before .pre)
+shared-slice-read-t16 c = let f = c .before .before in omega (arith, place-used f, entry f .pre)
 
 mul-t20 : tie.Need-mul-t20
-mul-t20 c = omega (arith, place-used (c .before .before .before), c .before .before .before .before .before .before .before .before .before .pre, c .before .before .before .before .before .before .before .before .before .good)
+mul-t20 c = let f = c .before .before .before in omega (arith, place-used f, entry f .pre, entry f .good)
 
 shared-slice-read-t22 : tie.Need-shared-slice-read-t22
-shared-slice-read-t22 c = omega (arith, place-used (c .before .before .before .before), c .before .before .before .before .before .before .before .before .before .before .pre .taintLevel (c .before .if1 .taken), c .before .before .before .before .before .before .before .before .before .before .pre)
+shared-slice-read-t22 c = let f = c .before .before .before .before in omega (arith, place-used f, entry f .pre .taintLevel (c .before .if1 .taken), entry f .pre)
 
 enum-told : tie.Need-enum-told
 enum-told c = search needs
 
 returns : tie.Need-returns
 returns c =
-    let s = c .before .before .before .before .before .before .before .before .before .before in
-    let a = s .args in
-    read-tainted (a .tainted) (a .count) (a .addresses .now) (a .numbers .now) (a .taints .now) (s .pre) (a .address) (place (c .before .before .before .before)) (found-at-place (c .before .before .before .before)) (c .before .if1 .taken)
+    let f = c .before .before .before .before in
+    let a = entry f .args in
+    read-tainted (a .tainted) (a .count) (a .addresses .now) (a .numbers .now) (a .taints .now) (entry f .pre) (a .address)
+    (place f) (at-place f) (c .before .if1 .taken)
 
 returns-2 : tie.Need-returns-2
 returns-2 c =
-    let s = c .before .before .before .before .before .before .before .before .before in
-    let a = s .args in
-    read-plain (a .tainted) (a .count) (a .addresses .now) (a .numbers .now) (a .taints .now) (s .pre) (a .address) (place (c .before .before .before)) (found-at-place (c .before .before .before)) (c .if1 .left)
+    let f = c .before .before .before in
+    let a = entry f .args in
+    read-plain (a .tainted) (a .count) (a .addresses .now) (a .numbers .now) (a .taints .now) (entry f .pre) (a .address)
+    (place f) (at-place f) (c .if1 .left)
 
 returns-3 : tie.Need-returns-3
 returns-3 c =
     let s = c .before .before .before .before .before .before in
     let a = s .args in
-    read-absent (a .tainted) (a .count) (a .addresses .now) (a .numbers .now) (a .taints .now) (s .pre) (a .address) (c .enum-told .given .0 .0) (sym (c .before .before .find .ensures) ∙ c .enum-told .given .1)
+    let f = c .enum-told .given in
+    read-absent (a .tainted) (a .count) (a .addresses .now) (a .numbers .now) (a .taints .now) (s .pre) (a .address)
+    (f .0 .0) (sym (c .before .before .find .ensures) ∙ f .1)
 
 pub read-spec : {M : Type 1} → statement M
-read-spec = tie.close (tie.spec find-requires enum-known-at mul-t14 shared-slice-read-t16 mul-t20 shared-slice-read-t22 enum-told returns returns-2 returns-3)
+read-spec =
+    tie.close
+    (tie.spec find-requires enum-known-at mul-t14 shared-slice-read-t16 mul-t20 shared-slice-read-t22 enum-told returns returns-2 returns-3)

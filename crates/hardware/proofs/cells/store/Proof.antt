@@ -13,18 +13,21 @@ find-requires c κs = c .before .before .before .before .pre .0 .addresses
 
 -- the place that was found lies within each buffer
 module _ (c : tie.After-find) where
-  within : (k : ℕ) → k ≡ length (c .before .before .before .before .before .args .addresses .now) → Within (c .find .result) (c .before .before .before .before .before .args .count) k
+  abbrev entry : tie.Start
+  entry = c .before .before .before .before .before
+
+  within : (k : ℕ) → k ≡ length (entry .args .addresses .now) → Within (c .find .result) (entry .args .count) k
   within =
-      let s = c .before .before .before .before .before in
-      let a = s .args in
-      store-within (a .count) (a .addresses .now) (a .numbers .now) (s .pre .0 .addresses) (s .pre .0 .level) (a .address) (a .number) (s .pre .1)
+      let a = entry .args in
+      let o = entry .pre .0 in
+      store-within (a .count) (a .addresses .now) (a .numbers .now) (o .addresses) (o .level) (a .address) (a .number) (entry .pre .1)
       (c .find .result) (c .find .ensures)
 
 keep-taint-requires : tie.Need-keep-taint-requires
-keep-taint-requires c κs = λ t. within (c .before) _ (c .before .before .before .before .before .before .pre .0 .taintLevel t)
+keep-taint-requires c κs = λ t. within (c .before) _ (entry (c .before) .pre .0 .taintLevel t)
 
 keep-requires : tie.Need-keep-requires
-keep-requires c κs = within (c .before .before .before .before .before) _ (c .before .before .before .before .before .before .before .before .before .before .pre .0 .level)
+keep-requires c κs = let f = c .before .before .before .before .before in within f _ (entry f .pre .0 .level)
 
 grow-requires : tie.Need-grow-requires
 grow-requires c κs = within (c .before .before .before .before .before .before .before .before .before) _ refl
@@ -40,11 +43,12 @@ same-length-3 c = search needs
 
 returns : tie.Need-returns
 returns c =
-    let s = c .before .before .before .before .before .before .before .before .before .before .before .before .before .before .before .before .before in
-    let a = s .args in
-    let f = c .before .before .before .before .before .before .before .before .before .before .before .before .find in
-    store-holds (a .tainted) (a .count) (a .addresses .now) (a .numbers .now) (a .taints .now) (s .pre .0) (a .address) (a .number) (a .taint)
-    (f .result) (f .ensures) _ _ _ _ (c .before .before .grow .ensures) (c .before .before .before .before .before .before .keep .ensures) (c .before .before .before .before .before .before .before .before .before .before .keep-taint .ensures)
+    let f = c .before .before .before .before .before .before .before .before .before .before .before .before in
+    let a = entry f .args in
+    store-holds (a .tainted) (a .count) (a .addresses .now) (a .numbers .now) (a .taints .now) (entry f .pre .0) (a .address) (a .number) (a .taint)
+    (f .find .result) (f .find .ensures) _ _ _ _ (c .before .before .grow .ensures) (c .before .before .before .before .before .before .keep .ensures) (c .before .before .before .before .before .before .before .before .before .before .keep-taint .ensures)
 
 pub store-spec : {M : Type 1} → statement M
-store-spec = tie.close (tie.spec find-requires keep-taint-requires keep-requires grow-requires same-length same-length-2 same-length-3 returns)
+store-spec =
+    tie.close
+    (tie.spec find-requires keep-taint-requires keep-requires grow-requires same-length same-length-2 same-length-3 returns)

@@ -1,9 +1,9 @@
 -- `hardware::cells::store_many` meets its contract. The loop's invariant: storing what is left, from the buffers as they are, is the whole store.
-use Prim.Native.Nat.{_+_, _-_, _≤_}
+use Prim.Native.Nat.{ℕ, _+_, _-_, _≤_}
 use native.Mathlib.Omega.{arith}
 use lib.ListN.{length, getD}
 use Rattle.rules.specs.Numbers.{heapEnd}
-use Rattle.rules.specs.Cells.{put, count}
+use Rattle.rules.specs.Cells.{Cells, put, count}
 use Rattle.hardware.specs.Buffers.{cellsOf}
 use Rattle.hardware.proofs.Storing.{Storing, storing-start, storing-end, storing-fits, storing-next}
 use Rattle.hardware.proofs.cells.store_many.Statement.{statement}
@@ -18,8 +18,9 @@ abbrev μ-loop : tie.MeasureT-loop
 
 loop-holds : tie.Need-loop-holds Inv-loop μ-loop
 loop-holds c =
-    let a = c .before .before .before .before .args in
-    storing-start (a .tainted) (a .addresses .now) (a .numbers .now) (a .taints .now) (a .count) (a .start) (a .values .now) (c .before .before .before .before .pre .0)
+    let s = c .before .before .before .before in
+    let a = s .args in
+    storing-start (a .tainted) (a .addresses .now) (a .numbers .now) (a .taints .now) (a .count) (a .start) (a .values .now) (s .pre .0)
 
 add-store : tie.Need-add-store Inv-loop μ-loop
 unfolding heapEnd
@@ -36,14 +37,22 @@ shared-slice-read-store c = omega arith
 
 -- the next value
 module _ (c : tie.In-loop Inv-loop μ-loop) where
-  fits : count (put (cellsOf (c .before .loop .used) (c .before .loop .addresses) (c .before .loop .numbers)) (c .before .before .before .before .before .before .args .start + c .before .loop .stored) (getD (c .before .before .before .before .before .before .args .values .now) (c .before .loop .stored) 0))
-      ≤ length (c .before .loop .addresses)
-  fits =
-      let a = c .before .before .before .before .before .before .args in
-      storing-fits (a .tainted) (a .addresses .now) (a .numbers .now) (a .taints .now) (a .count) (a .start) (a .values .now) _ _ _ _ _ (c .before .loop .inv) (c .loop-test .taken) (c .before .before .before .before .before .before .pre .1 .1)
+  abbrev entry : tie.Start Inv-loop μ-loop
+  entry = c .before .before .before .before .before .before
+
+  abbrev next : Cells ℕ
+  next =
+      let l = c .before .loop in
+      put (cellsOf (l .used) (l .addresses) (l .numbers)) (entry .args .start + l .stored) (getD (entry .args .values .now) (l .stored) 0)
+
+  next-fits : count next ≤ length (c .before .loop .addresses)
+  next-fits =
+      let a = entry .args in
+      storing-fits (a .tainted) (a .addresses .now) (a .numbers .now) (a .taints .now) (a .count) (a .start) (a .values .now)
+      _ _ _ _ _ (c .before .loop .inv) (c .loop-test .taken) (entry .pre .1 .1)
 
 store-requires : tie.Need-store-requires Inv-loop μ-loop
-store-requires c κs = (c .before .before .before .before .before .loop .inv .ordered, fits (c .before .before .before .before))
+store-requires c κs = (c .before .before .before .before .before .loop .inv .ordered, next-fits (c .before .before .before .before))
 
 add-stored : tie.Need-add-stored Inv-loop μ-loop
 add-stored c = omega arith
@@ -53,9 +62,10 @@ loop-less c = omega arith
 
 loop-again : tie.Need-loop-again Inv-loop μ-loop
 loop-again c =
-    let a = c .before .before .before .before .before .before .before .before .before .before .before .before .before .before .before .before .before .args in
-    let l = c .before .before .before .before .before .before .before .before .before .before .before in
-    storing-next (a .tainted) (a .addresses .now) (a .numbers .now) (a .taints .now) (a .count) (a .start) (a .values .now) _ _ _ _ _ (c .before .before .before .before .before .before .before .before .before .before .before .before .loop .inv) (l .loop-test .taken) _ _ _ _ (c .before .before .before .before .before .before .before .before .before .before .before .before .before .before .before .before .before .pre .1 .0) (fits l) (c .before .before .before .before .before .before .store .ensures)
+    let t = c .before .before .before .before .before .before .before .before .before .before .before in
+    let a = entry t .args in
+    storing-next (a .tainted) (a .addresses .now) (a .numbers .now) (a .taints .now) (a .count) (a .start) (a .values .now)
+    _ _ _ _ _ (t .before .loop .inv) (t .loop-test .taken) _ _ _ _ (entry t .pre .1 .0) (next-fits t) (c .before .before .before .before .before .before .store .ensures)
 
 same-length : tie.Need-same-length Inv-loop μ-loop
 same-length c = c .before .loop .inv .addressesLength
@@ -69,7 +79,10 @@ same-length-3 c = c .before .loop .inv .taintsLength
 returns : tie.Need-returns Inv-loop μ-loop
 returns c =
     let a = c .before .before .before .before .before .before .args in
-    storing-end (a .tainted) (a .addresses .now) (a .numbers .now) (a .taints .now) (a .count) (a .start) (a .values .now) _ _ _ _ _ (c .before .loop .inv) (c .loop-test .left)
+    storing-end (a .tainted) (a .addresses .now) (a .numbers .now) (a .taints .now) (a .count) (a .start) (a .values .now)
+    _ _ _ _ _ (c .before .loop .inv) (c .loop-test .left)
 
 pub store-many-spec : {M : Type 1} → statement M
-store-many-spec = tie.close (tie.spec Inv-loop μ-loop loop-holds add-store mul-store shared-slice-read-store store-requires add-stored loop-less loop-again same-length same-length-2 same-length-3 returns)
+store-many-spec =
+    tie.close
+    (tie.spec Inv-loop μ-loop loop-holds add-store mul-store shared-slice-read-store store-requires add-stored loop-less loop-again same-length same-length-2 same-length-3 returns)
