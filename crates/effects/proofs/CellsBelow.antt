@@ -7,7 +7,7 @@ use native.Mathlib.Omega.{arith}
 use lib.Dec.{leb}
 use Rattle.rules.specs.declared.Refusal.the-variants.{CellAbsent}
 use Rattle.rules.specs.Numbers.{choose}
-use Rattle.rules.specs.Results.{Result, refuse, pass, require}
+use Rattle.rules.specs.Results.{refuse, pass, require}
 use Rattle.rules.specs.Memory.{Slot, absent, present}
 use Rattle.rules.specs.Cells.{Cells, get, cells}
 use Rattle.rules.specs.Step.{slotValue, readBelow}

@@ -10,5 +10,4 @@ pub mod CellsBelow
 pub mod StoreTests
 pub mod Spans
 pub mod TapeParts
-pub mod OpcodeRows
-pub mod Fetched
+pub mod BufferEffects

@@ -1,8 +1,8 @@
 // Numbers to a register: ADD, MUL and NOT in the field, EQ and NEQ, AND, OR, XOR and GTE of small operands, MOV.
 use crate::Effect;
 use crate::Mode;
+use crate::taints;
 use goldilocks::FieldElement;
-use operands::taints;
 use program::table::Row;
 use rules::Refusal;
 ghost use mathlib.Core.Path.{_≡_};
@@ -13,44 +13,14 @@ ghost use Rattle.rules.specs.Step.{isSmall};
 ghost use Rattle.program.specs.Rows.{instructionFrom};
 ghost use Rattle.operands.specs.Meanings.{RegistersBelow};
 ghost use Rattle.effects.specs.declared.Effect.the-variants.{SetRegister};
-ghost use Rattle.effects.specs.Operations.{op1TaintOf, bothTaintOf, setsElement, setsComplement, setsSmall};
+ghost use Rattle.effects.specs.Effects.{setsComplement, setsSmall};
+ghost use Rattle.effects.specs.Operations.{op1TaintOf, bothTaintOf, setsElement};
 
 // AND, OR, XOR and GTE take operands below it, RC up to it.
-pub(crate) const SMALL_END: u64 = 0xFFFF_FFFF;
-
-// Is op1 tainted, in a tainted run?
-pub(crate) fn op1_taint(mode: Mode, row: Row) -> bool
-    requires { ⌜ RegistersBelow row ⌝ }
-    ensures { λ r. ⌜ ((ws : List ℕ) → r ≡ op1TaintOf mode (instructionFrom ws row)) ⌝ }
-{
-    if !mode.tainted {
-        return false;
-    }
-    taints::operand_taint(mode.register_taints, row.kind1, row.register1)
-}
-
-// Is op0 or op1?
-fn both_taint(mode: Mode, row: Row) -> bool
-    requires { ⌜ RegistersBelow row ⌝ }
-    ensures { λ r. ⌜ ((ws : List ℕ) → r ≡ bothTaintOf mode (instructionFrom ws row)) ⌝ }
-{
-    if !mode.tainted {
-        return false;
-    }
-    if taints::operand_taint(mode.register_taints, row.kind0, row.register0) {
-        return true;
-    }
-    taints::operand_taint(mode.register_taints, row.kind1, row.register1)
-}
+pub const SMALL_END: u64 = 0xFFFF_FFFF;
 
 // ADD and MUL, by their result.
-pub(crate) fn in_field(
-    mode: Mode,
-    row: Row,
-    result: FieldElement,
-    register: usize,
-    next: u64,
-) -> Effect
+pub fn in_field(mode: Mode, row: Row, result: FieldElement, register: usize, next: u64) -> Effect
     requires { ⌜ RegistersBelow row ⌝ }
     ensures { λ r. ⌜ ((ws : List ℕ) → r ≡ setsElement result register (bothTaintOf mode (instructionFrom ws row)) next) ⌝ }
 {
@@ -60,13 +30,13 @@ pub(crate) fn in_field(
     Effect::SetRegister {
         register,
         value: x.value,
-        taint: both_taint(mode, row),
+        taint: taints::both_taint(mode, row),
         next,
     }
 }
 
 // NOT.
-pub(crate) fn complement(mode: Mode, row: Row, a: u64, register: usize, next: u64) -> Effect
+pub fn complement(mode: Mode, row: Row, a: u64, register: usize, next: u64) -> Effect
     requires { ⌜ RegistersBelow row ⌝ }
     ensures { λ r. ⌜ ((ws : List ℕ) → r ≡ setsComplement a register (op1TaintOf mode (instructionFrom ws row)) next) ⌝ }
 {
@@ -76,20 +46,20 @@ pub(crate) fn complement(mode: Mode, row: Row, a: u64, register: usize, next: u6
     Effect::SetRegister {
         register,
         value: x.value,
-        taint: op1_taint(mode, row),
+        taint: taints::op1_taint(mode, row),
         next,
     }
 }
 
 // EQ and NEQ, by their result.
-pub(crate) fn equality(mode: Mode, row: Row, result: bool, register: usize, next: u64) -> Effect
+pub fn equality(mode: Mode, row: Row, result: bool, register: usize, next: u64) -> Effect
     requires { ⌜ RegistersBelow row ⌝ }
     ensures { λ r. ⌜ ((ws : List ℕ) → r ≡ SetRegister register (bit result) (bothTaintOf mode (instructionFrom ws row)) next) ⌝ }
 {
     Effect::SetRegister {
         register,
         value: result as u64,
-        taint: both_taint(mode, row),
+        taint: taints::both_taint(mode, row),
         next,
     }
 }
@@ -101,7 +71,7 @@ fn is_small(n: u64) -> bool
 }
 
 // AND, OR, XOR and GTE, by their operands and their result.
-pub(crate) fn small(
+pub fn small(
     mode: Mode,
     row: Row,
     a: u64,
@@ -122,20 +92,20 @@ pub(crate) fn small(
     Effect::SetRegister {
         register,
         value: result,
-        taint: both_taint(mode, row),
+        taint: taints::both_taint(mode, row),
         next,
     }
 }
 
 // MOV.
-pub(crate) fn copied(mode: Mode, row: Row, a: u64, register: usize, next: u64) -> Effect
+pub fn mov(mode: Mode, row: Row, a: u64, register: usize, next: u64) -> Effect
     requires { ⌜ RegistersBelow row ⌝ }
     ensures { λ r. ⌜ ((ws : List ℕ) → r ≡ SetRegister register a (op1TaintOf mode (instructionFrom ws row)) next) ⌝ }
 {
     Effect::SetRegister {
         register,
         value: a,
-        taint: op1_taint(mode, row),
+        taint: taints::op1_taint(mode, row),
         next,
     }
 }

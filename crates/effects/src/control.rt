@@ -1,29 +1,24 @@
-// Tests of op1, jumps, CALL and RET.
+// ASSERT, RC and CJMP.
 use crate::Effect;
 use crate::Mode;
 use crate::arithmetic;
-use crate::memory;
-use hardware::cells;
-use hardware::cells::Cell;
+use crate::taints;
 use operands::Value;
 use operands::values;
 use program::table::Row;
 use rules::Refusal;
 ghost use mathlib.Core.Path.{_≡_};
-ghost use Prim.Native.Nat.{_-_};
 ghost use lib.Dec.{leb, eqb};
-ghost use lib.ListN.{getD};
 ghost use Rattle.rules.specs.declared.Refusal.the-variants.{AssertFailed, RangeCheckFailed};
 ghost use Rattle.rules.specs.Numbers.{smallEnd};
 ghost use Rattle.rules.specs.Operands.{valueOf};
 ghost use Rattle.program.specs.Rows.{instructionFrom, Sound};
-ghost use Rattle.hardware.specs.Buffers.{cellsOf, cellOf, Rising, Ordered};
 ghost use Rattle.effects.specs.declared.Effect.the-variants.{Jump};
-ghost use Rattle.effects.specs.Effects.{check};
-ghost use Rattle.effects.specs.Operations.{op1TaintOf, jumpsWhere, cellBelow, returnsFrom, hasCapacity, callsWhere};
+ghost use Rattle.effects.specs.Effects.{check, jumpsWhere};
+ghost use Rattle.effects.specs.Operations.{op1TaintOf};
 
 // ASSERT.
-pub(crate) fn assert_one(a: u64, next: u64) -> Effect
+pub fn assert_one(a: u64, next: u64) -> Effect
     ensures { λ r. ⌜ r ≡ check (eqb a 1) AssertFailed (Jump next) ⌝ }
 {
     if a == 1 {
@@ -33,7 +28,7 @@ pub(crate) fn assert_one(a: u64, next: u64) -> Effect
 }
 
 // RC.
-pub(crate) fn check_range(a: u64, next: u64) -> Effect
+pub fn check_range(a: u64, next: u64) -> Effect
     ensures { λ r. ⌜ r ≡ check (leb a smallEnd) RangeCheckFailed (Jump next) ⌝ }
 {
     if a <= arithmetic::SMALL_END {
@@ -43,7 +38,7 @@ pub(crate) fn check_range(a: u64, next: u64) -> Effect
 }
 
 // CJMP: op1 is evaluated after op0's test.
-pub(crate) fn jump_where(
+pub fn jump_where(
     mode: Mode,
     row: Row,
     words: &[u64],
@@ -62,7 +57,7 @@ pub(crate) fn jump_where(
     match values::value(row.kind1, row.register1, words[place], registers, psp) {
         Value::Refused(f) => Effect::Refuse(f),
         Value::Is(target) => {
-            if arithmetic::op1_taint(mode, row) {
+            if taints::op1_taint(mode, row) {
                 return Effect::Sink;
             }
             if a == 1 {
@@ -70,80 +65,5 @@ pub(crate) fn jump_where(
             }
             Effect::Jump { next }
         }
-    }
-}
-
-// CALL: the next pc goes below R9.
-pub(crate) fn call(
-    registers: &[u64; 10],
-    addresses: &[u64],
-    count: usize,
-    target: u64,
-    next: u64,
-) -> Effect
-    requires { ⌜ Rising count (now addresses) ⌝ }
-    ensures { λ r. ⌜ r ≡ callsWhere (hasCapacity (now (addresses .entry)) count (getD (now (registers .entry)) 9 0 - 1) 1) (getD (now (registers .entry)) 9 0) next target ⌝ }
-{
-    let frame = registers[9];
-    if frame == 0 {
-        return Effect::Refuse(Refusal::StoreFault);
-    }
-    memory::store_cell(addresses, count, frame - 1, next, false, target)
-}
-
-// The cell k below an address; below 0 none is present.
-fn read_below(
-    tainted: bool,
-    addresses: &[u64],
-    numbers: &[u64],
-    taints: &[u64],
-    count: usize,
-    address: u64,
-    k: u64,
-) -> Cell
-    requires { ⌜ Ordered tainted count (now addresses) (now numbers) (now taints) ⌝ }
-    ensures { λ r. ⌜ r ≡ cellBelow (cellOf tainted (cellsOf count (now (addresses .entry)) (now (numbers .entry))) (cellsOf count (now (addresses .entry)) (now (taints .entry)))) address k ⌝ }
-{
-    if address < k {
-        return Cell::Absent;
-    }
-    cells::read(tainted, addresses, numbers, taints, count, address - k)
-}
-
-// RET: the pc from below R9, R9 from below that.
-pub(crate) fn return_from(
-    tainted: bool,
-    registers: &[u64; 10],
-    addresses: &[u64],
-    numbers: &[u64],
-    taints: &[u64],
-    count: usize,
-) -> Effect
-    requires { ⌜ Ordered tainted count (now addresses) (now numbers) (now taints) ⌝ }
-    ensures { λ r. ⌜ r ≡ returnsFrom tainted (cellsOf count (now (addresses .entry)) (now (numbers .entry))) (cellsOf count (now (addresses .entry)) (now (taints .entry))) (getD (now (registers .entry)) 9 0) ⌝ }
-{
-    let frame = registers[9];
-    match read_below(tainted, addresses, numbers, taints, count, frame, 1) {
-        Cell::Absent => Effect::Refuse(Refusal::CellAbsent),
-        Cell::Present {
-            number: pc,
-            tainted: sink,
-        } => match read_below(tainted, addresses, numbers, taints, count, frame, 2) {
-            Cell::Absent => Effect::Refuse(Refusal::CellAbsent),
-            Cell::Present {
-                number,
-                tainted: taint,
-            } => {
-                if sink {
-                    return Effect::Sink;
-                }
-                Effect::SetRegister {
-                    register: 9,
-                    value: number,
-                    taint,
-                    next: pc,
-                }
-            }
-        },
     }
 }

@@ -1,12 +1,13 @@
-// One step, decided whole: from what a step looks at to its effect, or its refusal. Nothing is written here; the crate `interpreter`
-// carries effects out.
+// What a step does, as an effect or a refusal: the effects of the opcodes, each from its operands as they were read. Nothing is written
+// here: the crate `decision` decides a whole step, and `interpreter` carries effects out.
 //
 // All functions are internal, for the crates above.
-mod arithmetic;
-mod control;
-pub mod decide;
-mod memory;
-mod tape;
+pub mod arithmetic;
+pub mod calls;
+pub mod control;
+pub mod memory;
+pub mod taints;
+pub mod tape;
 
 use rules::Refusal;
 

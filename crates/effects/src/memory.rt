@@ -25,7 +25,7 @@ fn is_storable(n: u64) -> bool
 }
 
 // The tests of a store of one number, the number's before the region's.
-pub(crate) fn test_store(address: u64, number: u64) -> Tested
+pub fn test_store(address: u64, number: u64) -> Tested
     ensures { λ r. ⌜ r ≡ testOf address number ⌝ }
 {
     if !is_storable(number) {
@@ -40,7 +40,7 @@ pub(crate) fn test_store(address: u64, number: u64) -> Tested
 }
 
 // One number to one cell, for CALL and MSTORE.
-pub(crate) fn store_cell(
+pub fn store_cell(
     addresses: &[u64],
     count: usize,
     address: u64,
@@ -68,7 +68,7 @@ pub(crate) fn store_cell(
 }
 
 // MLOAD, by the sum of its operands.
-pub(crate) fn load(
+pub fn load(
     tainted: bool,
     address: FieldElement,
     register: usize,
@@ -96,7 +96,7 @@ pub(crate) fn load(
 }
 
 // MSTORE, by the sum of its operands.
-pub(crate) fn store(
+pub fn store(
     address: FieldElement,
     number: u64,
     taint: bool,

@@ -2,6 +2,7 @@
 use crate::Effect;
 use crate::memory;
 use crate::memory::Tested;
+use crate::taints;
 use hardware::cells;
 use hardware::cells::Span;
 use hardware::regions::Region;
@@ -64,19 +65,8 @@ fn find_cells(addresses: &[u64], count: usize, start: u64, n: u64) -> SpanFound
     }
 }
 
-// Is one of the n cells from a place on tainted, in a tainted run?
-fn is_part_tainted(tainted: bool, taints: &[u64], at: usize, n: usize) -> bool
-    requires { ⌜ (tainted ≡ true → at + n ≤ length (now taints)) ⌝ }
-    ensures { λ r. ⌜ r ≡ partTaint tainted (now (taints .entry)) at n ⌝ }
-{
-    if !tainted {
-        return false;
-    }
-    cells::any_tainted(taints, at, n)
-}
-
 // TSTORE: n cells from a start on go to tape and output.
-pub(crate) fn store_tape(
+pub fn store_tape(
     tainted: bool,
     start: u64,
     n: u64,
@@ -99,7 +89,7 @@ pub(crate) fn store_tape(
         SpanFound::Refused(f) => Effect::Refuse(f),
         SpanFound::At(at) => {
             let length = n as usize;
-            if is_part_tainted(tainted, taints, at, length) {
+            if taints::is_part_tainted(tainted, taints, at, length) {
                 return Effect::Sink;
             }
             if tape.len() - used < length {
@@ -118,7 +108,7 @@ pub(crate) fn store_tape(
 }
 
 // SCCALL: the four cells from a start on name the callee; it delegates where op1 is 1.
-pub(crate) fn call_contract(
+pub fn call_contract(
     tainted: bool,
     start: u64,
     b: u64,
@@ -137,7 +127,7 @@ pub(crate) fn call_contract(
     match find_cells(addresses, count, start, 4) {
         SpanFound::Refused(f) => Effect::Refuse(f),
         SpanFound::At(at) => {
-            if is_part_tainted(tainted, taints, at, 4) {
+            if taints::is_part_tainted(tainted, taints, at, 4) {
                 return Effect::Sink;
             }
             if tape.len() - used < 12 {
@@ -235,7 +225,7 @@ fn load_part(
 }
 
 // TLOAD.
-pub(crate) fn load_tape(
+pub fn load_tape(
     a: u64,
     b: u64,
     address: u64,

@@ -1,8 +1,9 @@
-use mathlib.Core.Path.{sym, ap, _∙_}
+-- `effects::arithmetic::complement` meets its contract: by whether the operand is an element.
+use mathlib.Core.Path.{sym, _∙_}
+use borrow.Author.Needs.{needs}
 use Rattle.rules.specs.Field.{isElement, fieldComplement}
 use Rattle.goldilocks.proofs.Elements.{element, none}
 use Rattle.effects.specs.Effects.{check}
-use borrow.Author.Needs.{needs}
 use Rattle.effects.proofs.arithmetic.complement.Statement.{statement}
 use Rattle.effects.proofs.arithmetic.complement.Tie as tie
 

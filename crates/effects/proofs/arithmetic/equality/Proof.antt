@@ -1,3 +1,4 @@
+-- `effects::arithmetic::equality` meets its contract: the result as a number, and the taint of op0 or op1.
 use borrow.Author.Needs.{needs}
 use Rattle.effects.proofs.arithmetic.equality.Statement.{statement}
 use Rattle.effects.proofs.arithmetic.equality.Tie as tie

@@ -1,3 +1,4 @@
+-- `effects::arithmetic::in_field` meets its contract: by the result, and the taint of op0 or op1.
 use borrow.Author.Needs.{needs}
 use Rattle.effects.proofs.arithmetic.in_field.Statement.{statement}
 use Rattle.effects.proofs.arithmetic.in_field.Tie as tie

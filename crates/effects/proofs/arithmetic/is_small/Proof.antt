@@ -1,5 +1,6 @@
-use Rattle.rules.specs.Numbers.{smallEnd}
+-- `effects::arithmetic::is_small` meets its contract: the limit is the rules'.
 use mathlib.Core.Path.{refl}
+use Rattle.rules.specs.Numbers.{smallEnd}
 use Rattle.effects.proofs.arithmetic.is_small.Statement.{statement}
 use Rattle.effects.proofs.arithmetic.is_small.Tie as tie
 

@@ -1,7 +1,8 @@
-use borrow.Author.Tests.{not-true, not-false}
+-- `effects::arithmetic::small` meets its contract: op0's test before op1's.
 use mathlib.Core.Path.{sym, _∙_}
-use Rattle.effects.specs.Effects.{check}
 use borrow.Author.Needs.{needs}
+use borrow.Author.Tests.{not-true, not-false}
+use Rattle.effects.specs.Effects.{check}
 use Rattle.effects.proofs.arithmetic.small.Statement.{statement}
 use Rattle.effects.proofs.arithmetic.small.Tie as tie
 

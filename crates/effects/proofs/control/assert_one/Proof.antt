@@ -1,3 +1,4 @@
+-- `effects::control::assert_one` meets its contract: by the test.
 use borrow.Author.Tests.{eq-eqb, ne-eqb}
 use Rattle.effects.specs.Effects.{check}
 use Rattle.effects.proofs.control.assert_one.Statement.{statement}

@@ -1,3 +1,5 @@
+-- `effects::control::check_range` meets its contract: by the test; the limit is the rules'.
+use native.Mathlib.Omega.{arith}
 use borrow.Author.Tests.{le-leb, lt-leb}
 use Rattle.rules.specs.Numbers.{smallEnd}
 use Rattle.effects.specs.Effects.{check}
@@ -6,11 +8,11 @@ use Rattle.effects.proofs.control.check_range.Tie as tie
 
 returns : tie.Need-returns
 unfolding check smallEnd
-returns c = rw (le-leb _ _ (c .if1 .taken))
+returns c = rw (le-leb (c .before .args .a) smallEnd (omega arith))
 
 returns-2 : tie.Need-returns-2
 unfolding check smallEnd
-returns-2 c = rw (lt-leb _ _ (c .if1 .left))
+returns-2 c = rw (lt-leb (c .before .args .a) smallEnd (omega arith))
 
 pub check-range-spec : {M : Type 1} → statement M
 check-range-spec = tie.close (tie.spec returns returns-2)

@@ -1,11 +1,12 @@
+-- `effects::control::jump_where` meets its contract: op0's test, then op1's value, then its sink, then the jump.
+use mathlib.Core.Path.{sym, _∙_}
+use borrow.Author.Needs.{needs}
+use borrow.Author.Tests.{le-leb, lt-leb, eq-eqb, ne-eqb}
 use Rattle.rules.specs.Operands.{valueOf}
 use Rattle.program.specs.Rows.{instructionFrom}
 use Rattle.operands.proofs.Readings.{value-is, value-refused}
 use Rattle.operands.proofs.SoundRows.{sound-registers}
-use mathlib.Core.Path.{sym, _∙_}
-use borrow.Author.Tests.{le-leb, lt-leb, eq-eqb, ne-eqb}
 use Rattle.effects.specs.Effects.{check, onResult, sinkWhere}
-use borrow.Author.Needs.{needs}
 use Rattle.effects.proofs.control.jump_where.Statement.{statement}
 use Rattle.effects.proofs.control.jump_where.Tie as tie
 

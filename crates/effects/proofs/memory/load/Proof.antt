@@ -1,3 +1,4 @@
+-- `effects::memory::load` meets its contract: by whether the sum is an element, and by the cell there.
 use mathlib.Core.Path.{sym, _∙_}
 use borrow.Author.Needs.{needs}
 use Rattle.effects.proofs.memory.load.Statement.{statement}

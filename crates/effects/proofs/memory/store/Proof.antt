@@ -1,4 +1,4 @@
-use mathlib.Core.Path.{sym, ap}
+-- `effects::memory::store` meets its contract: by whether the sum is an element.
 use borrow.Author.Needs.{needs}
 use Rattle.effects.proofs.memory.store.Statement.{statement}
 use Rattle.effects.proofs.memory.store.Tie as tie

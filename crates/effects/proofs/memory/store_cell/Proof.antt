@@ -1,9 +1,10 @@
+-- `effects::memory::store_cell` meets its contract: the tests, then capacity; an address that passes is below the heap's end.
 use mathlib.Core.Path.{sym, _∙_}
 use native.Mathlib.Omega.{arith}
+use borrow.Author.Needs.{needs}
 use Rattle.rules.specs.Numbers.{heapEnd, wordEnd}
 use Rattle.effects.specs.Effects.{check}
 use Rattle.effects.proofs.StoreTests.{passes-below}
-use borrow.Author.Needs.{needs}
 use Rattle.effects.proofs.memory.store_cell.Statement.{statement}
 use Rattle.effects.proofs.memory.store_cell.Tie as tie
 

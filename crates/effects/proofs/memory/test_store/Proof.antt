@@ -1,7 +1,8 @@
+-- `effects::memory::test_store` meets its contract: the number's test, then the one of the address's region.
 use mathlib.Core.Path.{sym, ap, _∙_}
+use borrow.Author.Needs.{needs}
 use borrow.Author.Tests.{not-true, not-false}
 use Rattle.effects.proofs.StoreTests.{regionTest, test-region, test-number}
-use borrow.Author.Needs.{needs}
 use Rattle.effects.proofs.memory.test_store.Statement.{statement}
 use Rattle.effects.proofs.memory.test_store.Tie as tie
 

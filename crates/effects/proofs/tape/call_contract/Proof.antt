@@ -1,11 +1,12 @@
+-- `effects::tape::call_contract` meets its contract: the span, its sink, capacity of the tape.
 use Prim.Native.Nat.{_+_}
 use mathlib.Core.Path.{sym, _∙_}
 use native.Mathlib.Omega.{arith}
 use lib.ListN.{length}
+use borrow.Author.Needs.{needs}
 use borrow.Author.Tests.{le-leb, lt-leb}
 use Rattle.effects.specs.Effects.{check, sinkWhere}
 use Rattle.effects.proofs.Spans.{among-within}
-use borrow.Author.Needs.{needs}
 use Rattle.effects.proofs.tape.call_contract.Statement.{statement}
 use Rattle.effects.proofs.tape.call_contract.Tie as tie
 

@@ -1,12 +1,13 @@
+-- `effects::tape::find_cells` meets its contract: that the span fits, that it starts below p, that its cells are present.
 use Prim.Native.Nat.{_+_}
 use mathlib.Core.Path.{sym, _∙_}
 use lib.Dec.{ltb}
 use lib.ListN.{take}
+use borrow.Author.Needs.{needs}
 use borrow.Author.Tests.{not-true, not-false, ltb-true, lt-ltb, le-ltb}
 use Rattle.rules.specs.Numbers.{p, wordEnd}
 use Rattle.rules.proofs.BoolLaws.{and-left}
 use Rattle.effects.proofs.Spans.{span-at, span-absent}
-use borrow.Author.Needs.{needs}
 use Rattle.effects.proofs.tape.find_cells.Statement.{statement}
 use Rattle.effects.proofs.tape.find_cells.Tie as tie
 

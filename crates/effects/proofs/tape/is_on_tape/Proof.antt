@@ -1,3 +1,4 @@
+-- `effects::tape::is_on_tape` meets its contract: by op0.
 use borrow.Author.Tests.{eq-eqb, ne-eqb}
 use Rattle.effects.proofs.tape.is_on_tape.Statement.{statement}
 use Rattle.effects.proofs.tape.is_on_tape.Tie as tie

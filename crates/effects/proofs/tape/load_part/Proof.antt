@@ -1,13 +1,15 @@
-use lib.ListN.{length}
-use Rattle.effects.specs.Operations.{testsOf}
-use Rattle.effects.proofs.TapeParts.{part-size, part-between}
+-- `effects::tape::load_part` meets its contract: the end of the words, the tests of each cell, capacity.
 use Prim.Native.Nat.{_+_}
 use mathlib.Core.Path.{sym, ap, _∙_}
 use native.Mathlib.Omega.{arith}
+use lib.ListN.{length}
+use borrow.Author.Needs.{needs}
 use borrow.Author.Tests.{leb-false}
 use Rattle.rules.specs.Numbers.{wordEnd}
 use Rattle.effects.specs.Effects.{check}
-use borrow.Author.Needs.{needs}
+use Rattle.effects.specs.Operations.{testsOf}
+use Rattle.effects.proofs.ReadValues.{part-length}
+use Rattle.effects.proofs.TapeParts.{part-between}
 use Rattle.effects.proofs.tape.load_part.Statement.{statement}
 use Rattle.effects.proofs.tape.load_part.Tie as tie
 
@@ -37,7 +39,7 @@ test-values-requires : tie.Need-test-values-requires
 test-values-requires c κs =
     let s = c .before .before .before .before .before in
     let h = leb-false wordEnd (s .args .address + s .args .n) (sym (c .before .before .reaches-word-end .ensures) ∙ c .before .if1 .left) in
-    let k = ap length (part-between (s .args .from) (s .args .n) (s .args .tape .now)) ∙ part-size (s .args .from) (s .args .n) (s .args .tape .now) (s .pre .1) in
+    let k = ap length (part-between (s .args .from) (s .args .n) (s .args .tape .now)) ∙ part-length (s .args .tape .now) (s .args .from) (s .args .n) (s .pre .1) in
     omega arith
 
 enum-known-f : tie.Need-enum-known-f

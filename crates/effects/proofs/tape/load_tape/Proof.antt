@@ -1,9 +1,10 @@
+-- `effects::tape::load_tape` meets its contract: that the part is on the tape, then the part.
 use mathlib.Core.Path.{sym, _∙_}
 use native.Mathlib.Omega.{arith}
+use borrow.Author.Needs.{needs}
 use borrow.Author.Tests.{not-true, not-false}
 use Rattle.effects.specs.Effects.{check}
 use Rattle.effects.proofs.TapeParts.{part-on-tape}
-use borrow.Author.Needs.{needs}
 use Rattle.effects.proofs.tape.load_tape.Statement.{statement}
 use Rattle.effects.proofs.tape.load_tape.Tie as tie
 

@@ -1,7 +1,7 @@
-use native.Mathlib.Omega.{arith}
+-- `effects::tape::reaches_word_end` meets its contract: the same test without a sum that could wrap.
+use borrow.Author.Needs.{needs}
 use Rattle.rules.specs.Numbers.{wordEnd}
 use Rattle.effects.proofs.Spans.{reaches-end}
-use borrow.Author.Needs.{needs}
 use Rattle.effects.proofs.tape.reaches_word_end.Statement.{statement}
 use Rattle.effects.proofs.tape.reaches_word_end.Tie as tie
 

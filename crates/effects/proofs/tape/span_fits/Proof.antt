@@ -1,10 +1,10 @@
-use native.Mathlib.Omega.{arith}
+-- `effects::tape::span_fits` meets its contract: by the region of the start.
+use Prim.Native.Nat.{_+_}
 use mathlib.Core.Path.{sym, ap, _∙_}
+use borrow.Author.Needs.{needs}
 use borrow.Author.Tests.{leb-false}
 use Rattle.rules.specs.Numbers.{p, stackEnd, heapEnd, wordEnd}
-use Prim.Native.Nat.{_+_}
 use Rattle.effects.proofs.Spans.{fitsRegion, span-past-words, span-in-region}
-use borrow.Author.Needs.{needs}
 use Rattle.effects.proofs.tape.span_fits.Statement.{statement}
 use Rattle.effects.proofs.tape.span_fits.Tie as tie
 

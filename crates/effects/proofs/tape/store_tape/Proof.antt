@@ -1,11 +1,12 @@
+-- `effects::tape::store_tape` meets its contract: the span, its sink, capacity of tape and output.
 use Prim.Native.Nat.{_+_}
 use mathlib.Core.Path.{sym, _∙_}
 use native.Mathlib.Omega.{arith}
 use lib.ListN.{length}
+use borrow.Author.Needs.{needs}
 use borrow.Author.Tests.{le-leb, lt-leb}
 use Rattle.effects.specs.Effects.{check, sinkWhere}
 use Rattle.effects.proofs.Spans.{among-within}
-use borrow.Author.Needs.{needs}
 use Rattle.effects.proofs.tape.store_tape.Statement.{statement}
 use Rattle.effects.proofs.tape.store_tape.Tie as tie
 

@@ -1,3 +1,4 @@
+-- `effects::tape::tape_count` meets its contract: by op0.
 use borrow.Author.Tests.{eq-eqb, ne-eqb}
 use Rattle.effects.proofs.tape.tape_count.Statement.{statement}
 use Rattle.effects.proofs.tape.tape_count.Tie as tie

@@ -1,3 +1,4 @@
+-- `effects::tape::tape_from` meets its contract: by op0.
 use borrow.Author.Needs.{needs}
 use borrow.Author.Tests.{eq-eqb, ne-eqb}
 use Rattle.effects.proofs.TapeParts.{last-on-tape}

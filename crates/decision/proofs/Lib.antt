@@ -1,0 +1,3 @@
+-- Laws behind the proofs of the functions.
+pub mod OpcodeRows
+pub mod Fetched
