@@ -1,0 +1,2 @@
+-- Laws for `main`.
+pub mod Written
