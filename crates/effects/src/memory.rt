@@ -1,7 +1,6 @@
 // MLOAD and MSTORE, and the tests of a store.
 use crate::Effect;
 use goldilocks::FieldElement;
-use goldilocks::GoldilocksField;
 use hardware::cells;
 use hardware::cells::Cell;
 use hardware::regions::Region;
@@ -21,7 +20,7 @@ pub enum Tested {
 fn is_storable(n: u64) -> bool
     ensures { λ r. ⌜ r ≡ isStorable n ⌝ }
 {
-    n <= GoldilocksField::ORDER
+    n <= Cell::LARGEST
 }
 
 // The tests of a store of one number, the number's before the region's.

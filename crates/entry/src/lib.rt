@@ -2,6 +2,7 @@
 //
 // Internal, for the crates above, and for any arguments: `accepts`, and `accepts_taints` for what only a tainted run has.
 use goldilocks::GoldilocksField;
+use hardware::cells::Cell;
 use hardware::regions::Region;
 use rules::Machine;
 ghost use mathlib.Core.Path.{_≡_};
@@ -145,7 +146,7 @@ pub fn accepts(
     if !rising(used(addresses, machine.cell_count)) {
         return false;
     }
-    at_most(used(numbers, machine.cell_count), GoldilocksField::ORDER)
+    at_most(used(numbers, machine.cell_count), Cell::LARGEST)
 }
 
 // Do the taints pass? Bit i of `register_taints` is register i's. Tape and output do not matter.

@@ -26,6 +26,11 @@ pub enum Cell {
     Absent,
 }
 
+impl Cell {
+    // The largest number that a cell can hold, which is p.
+    pub const LARGEST: u64 = 0xFFFF_FFFF_0000_0001;
+}
+
 // Where the first of a span's cells is, if all are present.
 pub enum Span {
     At(usize),
