@@ -145,7 +145,7 @@ pub(crate) fn carry_out(
             Stepped {
                 pc: next,
                 clk: next_clk,
-                counts: counts,
+                counts,
                 register_taints: taints_after(mode, register, taint),
                 finish: Finish::GoesOn,
             }
@@ -170,19 +170,19 @@ pub(crate) fn carry_out(
                 pc: next,
                 clk: next_clk,
                 counts: Counts {
-                    cells: cells,
+                    cells,
                     tape: counts.tape,
                     output: counts.output,
                 },
-                register_taints: register_taints,
+                register_taints,
                 finish: Finish::GoesOn,
             }
         }
         Effect::Jump { next } => Stepped {
             pc: next,
             clk: next_clk,
-            counts: counts,
-            register_taints: register_taints,
+            counts,
+            register_taints,
             finish: Finish::GoesOn,
         },
         Effect::LoadTape {
@@ -206,11 +206,11 @@ pub(crate) fn carry_out(
                 pc: next,
                 clk: next_clk,
                 counts: Counts {
-                    cells: cells,
+                    cells,
                     tape: counts.tape,
                     output: counts.output,
                 },
-                register_taints: register_taints,
+                register_taints,
                 finish: Finish::GoesOn,
             }
         }
@@ -227,7 +227,7 @@ pub(crate) fn carry_out(
                     tape: tape_count,
                     output: output_count,
                 },
-                register_taints: register_taints,
+                register_taints,
                 finish: Finish::GoesOn,
             }
         }
@@ -242,29 +242,29 @@ pub(crate) fn carry_out(
                     tape: tape_count,
                     output: 0,
                 },
-                register_taints: register_taints,
+                register_taints,
                 finish: Finish::Leaves(answer),
             }
         }
         Effect::End { next } => Stepped {
             pc: next,
             clk: next_clk,
-            counts: counts,
-            register_taints: register_taints,
+            counts,
+            register_taints,
             finish: Finish::Leaves(Answer::Ended),
         },
         Effect::Refuse(refusal) => Stepped {
-            pc: pc,
-            clk: clk,
-            counts: counts,
-            register_taints: register_taints,
+            pc,
+            clk,
+            counts,
+            register_taints,
             finish: Finish::Refuses(Answer::Refused(refusal)),
         },
         Effect::Sink => Stepped {
-            pc: pc,
-            clk: clk,
-            counts: counts,
-            register_taints: register_taints,
+            pc,
+            clk,
+            counts,
+            register_taints,
             finish: Finish::Refuses(Answer::TaintedSink),
         },
     }
