@@ -144,7 +144,7 @@ impl Look<'_> {
             OlaOpcode::TSTORE => {
                 let (op0, op1) = (op0()?, op1()?);
                 self.span(op0, op1)?;
-                let output = self.stepper.output_length() as u64 + op1;
+                let output = self.stepper.output().len() as u64 + op1;
                 room(self.stepper.tape_length() + op1 <= MOST_TAPE)?;
                 room(output <= MOST_OUTPUT as u64)
             }

@@ -1,12 +1,11 @@
-//! The first list of answers: cases written by hand and cases drawn from a seed, all of them compared.
+//! The first list of cases: written by hand and drawn from a seed, all of them compared.
 
 mod edges;
-mod operand_kinds;
-mod programs;
-mod values;
+pub mod operand_kinds;
+pub mod programs;
+pub mod values;
 mod written;
 
-use crate::answers::{write_answer, write_case, FORMAT};
 use crate::case::Case;
 use crate::domain::why_not_compared;
 use crate::outcome::Outcome;
@@ -14,25 +13,7 @@ use crate::splitmix::SplitMix64;
 use crate::stepper::{Mode, Stepper};
 
 /// Any number does; this one is the golden ratio's, as in SplitMix64.
-const SEED: u64 = 0x9E37_79B9_7F4A_7C15;
-
-/// The whole file.
-pub fn text() -> String {
-    let mut text = format!(
-        "\
-# Answers of `OlaContractExecutor::resume` (Sin7Y/olavm 74fb50ee61) in its mode without traces, built for release.
-# Made by: cargo run --release --offline --manifest-path oracle/Cargo.toml -- answers > oracle/answers/first.txt
-# Cases come first from document 01 and by hand, then from SplitMix64 with the seed {SEED:016x}.
-# All are in the domain that document 01 compares.
-{FORMAT}"
-    );
-    for (index, case) in cases().iter().enumerate() {
-        text.push('\n');
-        write_case(&mut text, index + 1, case);
-        write_answer(&mut text, case, Mode::Plain);
-    }
-    text
-}
+pub const SEED: u64 = 0x9E37_79B9_7F4A_7C15;
 
 pub fn cases() -> Vec<Case> {
     let mut random = SplitMix64::new(SEED);

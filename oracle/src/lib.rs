@@ -9,6 +9,7 @@ pub mod domain;
 pub mod first_list;
 pub mod frames;
 pub mod outcome;
+pub mod replay;
 pub mod splitmix;
 pub mod state;
 pub mod stepper;

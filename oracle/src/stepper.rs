@@ -137,6 +137,14 @@ impl Stepper {
         &self.traces.steps
     }
 
+    pub fn pc(&self) -> u64 {
+        self.executor.pc()
+    }
+
+    pub fn clk(&self) -> u64 {
+        self.executor.clk()
+    }
+
     pub fn registers(&self) -> &[u64; 10] {
         self.executor.registers()
     }
@@ -159,8 +167,8 @@ impl Stepper {
             .expect("positions below tp are written")
     }
 
-    pub fn output_length(&self) -> usize {
-        self.executor.output().len()
+    pub fn output(&self) -> &[u64] {
+        self.executor.output()
     }
 
     /// The instruction that starts at pc.

@@ -4,5 +4,5 @@
 // Internal, for the crates above: `table::{load_words, fetch}`.
 pub mod binary_program;
 mod opcodes;
-mod operands;
+mod operand_kinds;
 pub mod table;

@@ -107,6 +107,7 @@ fn clock() -> Vec<Case> {
                 let name = format!("mov, then {name}, {before} before the clock's limit");
                 cases.push(
                     Case::new(name, &[mov, last])
+                        .register(0, 7)
                         .clk(CLOCK_LIMIT - before)
                         .cells(0, &[1, 2, 3, 4])
                         .budget(budget),
@@ -117,6 +118,7 @@ fn clock() -> Vec<Case> {
     cases
 }
 
+/// R0, the destination, has a number that a result does not have, so that each result is seen.
 fn single(name: String, program: &[Frame]) -> Case {
-    Case::new(name, program).budget(1)
+    Case::new(name, program).register(0, 7).budget(1)
 }

@@ -10,7 +10,7 @@ use crate::frames::{Frame, Operand};
 use crate::splitmix::SplitMix64;
 use crate::state::State;
 
-const COUNT: usize = 700;
+const COUNT: usize = 1000;
 
 pub fn cases(random: &mut SplitMix64) -> Vec<Case> {
     (1..=COUNT)
@@ -30,7 +30,7 @@ pub fn cases(random: &mut SplitMix64) -> Vec<Case> {
         .collect()
 }
 
-fn random_program(random: &mut SplitMix64) -> Vec<Frame> {
+pub fn random_program(random: &mut SplitMix64) -> Vec<Frame> {
     let opcodes = compared_opcodes();
     let count = 2 + random.below(9);
     let mut program: Vec<Frame> = (0..count)
@@ -79,7 +79,8 @@ fn aim_jumps(random: &mut SplitMix64, program: &mut [Frame]) {
     }
 }
 
-fn starts_of(program: &[Frame]) -> Vec<u64> {
+/// The pc of each frame.
+pub fn starts_of(program: &[Frame]) -> Vec<u64> {
     let mut pc = 0;
     program
         .iter()

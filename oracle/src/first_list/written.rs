@@ -61,10 +61,15 @@ fn document() -> Vec<Case> {
     let tstore = |length| [frame(TSTORE, reg(0), imm(length), NONE)];
     vec![
         Case::new("the listing of solve", &decode(&SOLVE).unwrap()).budget(0x64),
-        one("p-1 + 1", &add).register(0, P - 1).register(1, 1),
+        one("p-1 + 1", &add)
+            .register(0, P - 1)
+            .register(1, 1)
+            .register(2, 9),
         one("2^32 times 2^32", &mul).register(0, U32_MAX + 1),
         one("not 0", &[frame(NOT, NONE, reg(0), reg(2))]),
-        one("and of 0xfffffffe and 1", &and).register(0, U32_MAX - 1),
+        one("and of 0xfffffffe and 1", &and)
+            .register(0, U32_MAX - 1)
+            .register(2, 9),
         one("and of 0xffffffff and 1", &and).register(0, U32_MAX),
         one("rc 0xffffffff", &rc).register(0, U32_MAX),
         one("rc 0x100000000", &rc).register(0, U32_MAX + 1),

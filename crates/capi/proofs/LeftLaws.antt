@@ -1,0 +1,34 @@
+-- What a call leaves, from its parts: the machine of the record handed in, the call, and the records written afterwards.
+use Prim.Native.Nat.{ℕ}
+use mathlib.Core.Path.{_≡_, ap, ap₂, _∙_}
+use mathlib.Core.List.{List}
+use Rattle.rules.specs.declared.Machine.{Machine}
+use Rattle.rules.specs.Answers.{meaning}
+use Rattle.rules.specs.Entry.{Snapshot, TaintedSnapshot}
+use Rattle.rules.specs.Calls.{Called}
+use Rattle.executor.specs.declared.Called as PlainCode
+use Rattle.executor.specs.Calling as Plain
+use Rattle.tainted.specs.declared.Called as TaintedCode
+use Rattle.tainted.specs.Calling as Tainted
+use Rattle.capi.specs.Records.{machineRecord, answerRecord}
+use Rattle.capi.specs.Calling.{buffers, taintedBuffers, plainLeft, taintedLeft}
+
+-- a name with ₀ is what was handed in
+module _ {given machine₀ : Machine} {xs ns tape output xs₀ ns₀ tape₀ output₀ answer machine : List ℕ} where
+  pub plain-left : (r : PlainCode.Called) (call : Snapshot → Called Snapshot) → given ≡ machine₀
+      → Plain.called r xs ns tape output ≡ call (Plain.snapshot given xs₀ ns₀ tape₀ output₀)
+      → answer ≡ answerRecord (meaning (r .answer)) (r .steps)
+      → machine ≡ machineRecord (r .machine)
+      → buffers answer machine xs ns tape output ≡ plainLeft (call (Plain.snapshot machine₀ xs₀ ns₀ tape₀ output₀))
+  plain-left r call e h a m =
+      ap₂ (λ (a m : List ℕ). buffers a m xs ns tape output) a m
+      ∙ ap plainLeft (h ∙ ap (λ (m : Machine). call (Plain.snapshot m xs₀ ns₀ tape₀ output₀)) e)
+
+  pub tainted-left : {ts ts₀ : List ℕ} {w₀ : ℕ} (r : TaintedCode.Called) (call : TaintedSnapshot → Called TaintedSnapshot) → given ≡ machine₀
+      → Tainted.called r xs ns ts tape output ≡ call (Tainted.snapshot given w₀ xs₀ ns₀ ts₀ tape₀ output₀)
+      → answer ≡ answerRecord (meaning (r .answer)) (r .steps)
+      → machine ≡ machineRecord (r .machine)
+      → taintedBuffers answer machine (r .«register_taints») xs ns ts tape output ≡ taintedLeft (call (Tainted.snapshot machine₀ w₀ xs₀ ns₀ ts₀ tape₀ output₀))
+  tainted-left {ts} {ts₀} {w₀} r call e h a m =
+      ap₂ (λ (a m : List ℕ). taintedBuffers a m (r .«register_taints») xs ns ts tape output) a m
+      ∙ ap taintedLeft (h ∙ ap (λ (m : Machine). call (Tainted.snapshot m w₀ xs₀ ns₀ ts₀ tape₀ output₀)) e)

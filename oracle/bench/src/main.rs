@@ -1,0 +1,106 @@
+//! The library's speed, beside the Rust `resume` and the yardstick: tables to stdout, progress to stderr, a picture where one is asked for.
+
+mod chart;
+mod contenders;
+mod entry;
+mod growth;
+mod lent;
+mod programs;
+mod stack;
+mod steps;
+mod timing;
+mod yardstick;
+
+use std::env::{args, consts};
+use std::fs;
+use std::process::ExitCode;
+use std::thread;
+
+const HELP: &str = "\
+usage: bench [--only PART] [--plot FILE]
+
+  --only PART  only one of the parts: steps, entry, growth, stack
+  --plot FILE  writes the part growth into FILE too, as a picture (SVG)
+  --help       prints this
+";
+
+const PARTS: [&str; 4] = ["steps", "entry", "growth", "stack"];
+
+struct Options {
+    only: Option<String>,
+    plot: Option<String>,
+}
+
+/// `None` where the help is asked for.
+fn options() -> Result<Option<Options>, String> {
+    let mut options = Options {
+        only: None,
+        plot: None,
+    };
+    let mut arguments = args().skip(1);
+    while let Some(argument) = arguments.next() {
+        let mut value = || arguments.next().ok_or(format!("{argument} of what?"));
+        match argument.as_str() {
+            "--only" => options.only = Some(value()?),
+            "--plot" => options.plot = Some(value()?),
+            "--help" => return Ok(None),
+            _ => return Err(format!("{argument} is no option")),
+        }
+    }
+    match &options.only {
+        Some(part) if !PARTS.contains(&part.as_str()) => Err(format!("{part} is no part")),
+        _ => Ok(Some(options)),
+    }
+}
+
+fn heading() -> String {
+    let cores = thread::available_parallelism().map_or(1, |cores| cores.get());
+    format!(
+        "Measured on {}, {cores} cores, release builds, in time of the processor. All that is compared takes turns; a time is the median of \
+         its turns, a ratio the median of the turns' ratios.",
+        consts::ARCH.replace('_', "-")
+    )
+}
+
+fn measure(options: &Options) -> Result<(), String> {
+    let wanted = |part: &str| options.only.as_ref().is_none_or(|only| only == part);
+    println!("{}\n", heading());
+    if wanted("steps") {
+        println!("## Steps\n\nNanoseconds a step.\n\n{}", steps::table());
+    }
+    if wanted("entry") {
+        println!(
+            "## Entry\n\nNanoseconds a call with budget 1.\n\n{}",
+            entry::table()
+        );
+    }
+    if wanted("growth") {
+        let panels = growth::panels();
+        println!("## Growth\n\n{}", growth::tables(&panels));
+        if let Some(file) = &options.plot {
+            fs::write(file, chart::svg(&panels)).map_err(|error| format!("{file}: {error}"))?;
+        }
+    }
+    if wanted("stack") {
+        println!("## Stack\n\n{}", stack::table());
+    }
+    Ok(())
+}
+
+fn main() -> ExitCode {
+    let measured = match options() {
+        Ok(Some(options)) => measure(&options),
+        Ok(None) => {
+            print!("{HELP}");
+            Ok(())
+        }
+        Err(wrong) => Err(format!("{wrong}\n{HELP}")),
+    };
+    match measured {
+        Ok(()) => ExitCode::SUCCESS,
+        Err(wrong) => {
+            eprintln!("bench: {wrong}");
+            ExitCode::FAILURE
+        }
+    }
+}

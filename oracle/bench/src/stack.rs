@@ -1,0 +1,93 @@
+//! How much stack a call takes: what lies below it is painted before, and looked at afterwards.
+
+use std::hint::black_box;
+use std::thread;
+
+use ola_library::{run, run_tainted, Lent, Program};
+use oracle::frames::{encode, Frame};
+use oracle::state::State;
+
+use crate::lent::lent;
+use crate::programs;
+
+const STACK: usize = 4 << 20;
+/// Words below the call that are painted: more than any call takes, less than the stack has.
+const PAINTED: usize = 1 << 16;
+/// Words left out, for the painter's own frame.
+const SPARED: usize = 64;
+const PAINT: u64 = 0x5AA5_C33C_9669_F00F;
+
+pub fn table() -> String {
+    eprintln!("bench: stack");
+    let frames = programs::of_length(512);
+    let words = encode(&frames);
+    let text = as_text(&frames);
+    let words = Program::Words {
+        words: &words,
+        budget: 1000,
+    };
+    let text = Program::Text {
+        text: text.as_bytes(),
+        budget: 1000,
+    };
+    let mut table = String::from("| call | stack, bytes |\n|---|---|\n");
+    for (name, used) in [
+        ("plain, bare words", of_call(|lent| run(words, lent).steps)),
+        ("plain, text", of_call(|lent| run(text, lent).steps)),
+        (
+            "tainted run, bare words",
+            of_call(|lent| run_tainted(words, lent).steps),
+        ),
+        (
+            "tainted run, text",
+            of_call(|lent| run_tainted(text, lent).steps),
+        ),
+    ] {
+        table += &format!("| {name} | {used} |\n");
+    }
+    table
+}
+
+fn as_text(frames: &[Frame]) -> String {
+    let line = |frame: &Frame| -> String {
+        let words = frame.words();
+        words.iter().map(|word| format!("{word:016x}")).collect()
+    };
+    frames.iter().map(|frame| line(frame) + "\n").collect()
+}
+
+/// In a thread of its own, whose stack is known to be large enough.
+fn of_call(call: impl Fn(&mut Lent) -> u64 + Send) -> usize {
+    let mut lent = lent(&State::default());
+    thread::scope(|scope| {
+        let measured = thread::Builder::new()
+            .stack_size(STACK)
+            .spawn_scoped(scope, move || painted_call(|| call(&mut lent)));
+        measured
+            .expect("a thread can be started")
+            .join()
+            .expect("the call does not panic")
+    })
+}
+
+#[inline(never)]
+fn painted_call(mut call: impl FnMut() -> u64) -> usize {
+    let mut here = 0u64;
+    let top: *mut u64 = black_box(&mut here);
+    // SAFETY: this thread's stack goes further down than what is painted, and nothing below this frame is in use between calls.
+    unsafe {
+        for below in SPARED..PAINTED {
+            top.sub(below).write_volatile(PAINT);
+        }
+    }
+    assert_eq!(black_box(call()), 1000, "the call does its steps");
+    let mut used = PAINTED;
+    // SAFETY: as above.
+    unsafe {
+        while used > SPARED && top.sub(used - 1).read_volatile() == PAINT {
+            used -= 1;
+        }
+    }
+    assert!(used > SPARED && used < PAINTED, "the call's depth is seen");
+    used * size_of::<u64>()
+}

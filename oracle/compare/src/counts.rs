@@ -1,0 +1,235 @@
+//! What a comparison of steps came to, and whether it came to everything.
+
+use ola_core::vm::opcodes::OlaOpcode;
+use ola_library::Answer;
+use oracle::domain::NotCompared;
+use oracle::first_list::operand_kinds::compared_opcodes;
+use oracle::frames::{Frame, Operand, OPCODES};
+
+use crate::generate::FORMS;
+use crate::model::Touched;
+use crate::options::Options;
+use crate::region_edges::EdgeCounts;
+use crate::tables::{grouped, head, row};
+
+/// The refusals that document 01 compares.
+const COMPARED_REFUSALS: [usize; 10] = [4, 6, 8, 9, 10, 11, 12, 13, 14, 17];
+
+const PLACES: [&str; 3] = ["op0", "op1", "dst"];
+const KINDS: [&str; 7] = [
+    "absent",
+    "immediate",
+    "register",
+    "offset",
+    "factor",
+    "PSP",
+    "PC",
+];
+
+/// Why a step is not compared, with a name.
+const OUTSIDE: [(NotCompared, &str); 7] = [
+    (NotCompared::Opcode, "refusal 5"),
+    (NotCompared::NotBelowP, "refusal 7"),
+    (NotCompared::ProphetStore, "refusal 15"),
+    (NotCompared::Capacity, "refusal 16"),
+    (
+        NotCompared::AssertWithoutRegister,
+        "ASSERT without a register",
+    ),
+    (NotCompared::WrappingAddress, "an address that wraps"),
+    (NotCompared::LongSpan, "a span above 4,096"),
+];
+
+/// One compared step.
+pub struct Stepped {
+    /// None where no instruction starts at pc.
+    pub frame: Option<Frame>,
+    pub answer: Answer,
+    pub touched: Option<Touched>,
+    /// Counts after the step.
+    pub cells: u64,
+    pub tape: u64,
+}
+
+#[derive(Default)]
+pub struct StepCounts {
+    pub accepted: u64,
+    /// By form.
+    pub programs: [u64; FORMS.len()],
+    longest: u64,
+    most_cells: u64,
+    most_tape: u64,
+    /// By opcode.
+    accepted_by: [u64; OPCODES.len()],
+    refused_by: [u64; OPCODES.len()],
+    /// By opcode, place and kind.
+    kinds: [[[u64; KINDS.len()]; PLACES.len()]; OPCODES.len()],
+    /// By number.
+    refusals: [u64; 19],
+    outcomes: [u64; 4],
+    outside: [u64; OUTSIDE.len()],
+    edges: EdgeCounts,
+}
+
+impl StepCounts {
+    pub fn count(&mut self, stepped: &Stepped) {
+        let answer = &stepped.answer;
+        self.accepted += answer.steps;
+        if answer.refused == 1 {
+            self.refusals[answer.number as usize] += 1;
+        } else {
+            self.outcomes[answer.number as usize] += 1;
+        }
+        if let Some(frame) = &stepped.frame {
+            let opcode = frame.opcode as usize;
+            if answer.steps == 1 {
+                self.accepted_by[opcode] += 1;
+            } else {
+                self.refused_by[opcode] += 1;
+            }
+            for (place, operand) in [frame.op0, frame.op1, frame.dst].into_iter().enumerate() {
+                self.kinds[opcode][place][kind_of(operand)] += 1;
+            }
+        }
+        if let Some(touched) = stepped.touched {
+            self.edges.count(touched);
+        }
+        self.most_cells = self.most_cells.max(stepped.cells);
+        self.most_tape = self.most_tape.max(stepped.tape);
+    }
+
+    pub fn program_ends(&mut self, steps: u64) {
+        self.longest = self.longest.max(steps);
+    }
+
+    pub fn outside(&mut self, why: NotCompared) {
+        let place = OUTSIDE.iter().position(|(listed, _)| *listed == why);
+        self.outside[place.expect("every reason is listed")] += 1;
+    }
+
+    /// An error names what was never met.
+    pub fn complete(&self) -> Result<(), String> {
+        let mut missing: Vec<String> = vec![];
+        let mut need = |count: u64, what: String| {
+            if count == 0 {
+                missing.push(what);
+            }
+        };
+        for opcode in compared_opcodes() {
+            let count = self.accepted_by[opcode as usize];
+            need(count, format!("{opcode:?} accepted"));
+        }
+        for (opcode, place, kind) in compared_combinations() {
+            let (place_name, kind_name) = (PLACES[place], KINDS[kind]);
+            need(
+                self.kinds[opcode as usize][place][kind],
+                format!("{opcode:?} with {place_name} {kind_name}"),
+            );
+        }
+        for number in COMPARED_REFUSALS {
+            need(self.refusals[number], format!("refusal {number}"));
+        }
+        for (number, count) in self.outcomes.into_iter().enumerate() {
+            need(count, format!("outcome e{number}"));
+        }
+        missing.extend(self.edges.missing());
+        if missing.is_empty() {
+            Ok(())
+        } else {
+            Err(format!("never met: {}", missing.join("; ")))
+        }
+    }
+
+    pub fn tables(&self, options: &Options) -> String {
+        let mut text = String::new();
+        self.put_summary(&mut text, options);
+        self.put_opcodes(&mut text);
+        self.put_operands(&mut text);
+        self.edges.put(&mut text);
+        text
+    }
+
+    fn put_summary(&self, text: &mut String, options: &Options) {
+        head(text, &["What", "Count"]);
+        row(text, "seed", &[format!("{:x}", options.seed)]);
+        let mut put = |name: &str, count: u64| row(text, name, &[grouped(count)]);
+        put("programs", self.programs.iter().sum());
+        for (form, count) in FORMS.iter().zip(self.programs) {
+            put(&format!("programs, {}", form.name()), count);
+        }
+        put("differences", 0);
+        put("accepted steps compared", self.accepted);
+        put("refusals compared", self.refusals.iter().sum());
+        put("most steps of a program", self.longest);
+        put("most cells", self.most_cells);
+        put("longest tape", self.most_tape);
+        for (number, count) in self.outcomes.into_iter().enumerate() {
+            put(&format!("steps with e{number}"), count);
+        }
+        for number in COMPARED_REFUSALS {
+            put(&format!("refusal {number}"), self.refusals[number]);
+        }
+        for ((_, name), count) in OUTSIDE.iter().zip(self.outside) {
+            put(
+                &format!("programs cut before a step not compared: {name}"),
+                count,
+            );
+        }
+    }
+
+    fn put_opcodes(&self, text: &mut String) {
+        head(text, &["Opcode", "Accepted", "Refused"]);
+        for opcode in compared_opcodes() {
+            let number = opcode as usize;
+            let counts = [self.accepted_by[number], self.refused_by[number]];
+            row(text, &format!("{opcode:?}"), &counts.map(grouped));
+        }
+    }
+
+    fn put_operands(&self, text: &mut String) {
+        head(text, &[&["Operand"][..], &KINDS].concat());
+        for (place, name) in PLACES.into_iter().enumerate() {
+            let counts: Vec<String> = (0..KINDS.len())
+                .map(|kind| grouped(self.kinds.iter().map(|places| places[place][kind]).sum()))
+                .collect();
+            row(text, name, &counts);
+        }
+        let combinations = compared_combinations();
+        let counts = combinations
+            .iter()
+            .map(|(opcode, place, kind)| self.kinds[*opcode as usize][*place][*kind]);
+        let rarest = counts.min().unwrap_or(0);
+        text.push_str(&format!(
+            "\nEach of the {} combinations of opcode, place and kind that are compared was met at least {} times.\n",
+            combinations.len(),
+            grouped(rarest)
+        ));
+    }
+}
+
+/// Opcode, place and kind. Not compared: ASSERT without a register.
+fn compared_combinations() -> Vec<(OlaOpcode, usize, usize)> {
+    let mut combinations = vec![];
+    for opcode in compared_opcodes() {
+        for place in 0..PLACES.len() {
+            for kind in 0..KINDS.len() {
+                if opcode != OlaOpcode::ASSERT || place != 1 || kind == 2 {
+                    combinations.push((opcode, place, kind));
+                }
+            }
+        }
+    }
+    combinations
+}
+
+fn kind_of(operand: Operand) -> usize {
+    match operand {
+        Operand::Absent => 0,
+        Operand::Immediate(_) => 1,
+        Operand::Register(_) => 2,
+        Operand::Offset(..) => 3,
+        Operand::Factor(..) => 4,
+        Operand::Psp => 5,
+        Operand::Pc => 6,
+    }
+}

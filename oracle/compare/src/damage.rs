@@ -1,0 +1,176 @@
+//! Damages to what a call is handed: to a state, to words, to a text. Some go only to a limit and not past it.
+
+use ola_library::Lent;
+use oracle::domain::{HEAP_END, P};
+use oracle::splitmix::SplitMix64;
+
+use crate::lending::GREATEST;
+use crate::model::CLOCK_LIMIT;
+
+/// Damages the part of a state that both runs look at.
+pub fn plain_state(random: &mut SplitMix64, lent: &mut Lent) {
+    let used = (lent.machine.cell_count as usize).min(lent.addresses.len());
+    match random.below(14) {
+        0 => lent.machine.clk = random.pick(&[CLOCK_LIMIT - 1, CLOCK_LIMIT, u64::MAX]),
+        1 => lent.machine.cell_count = bad_count(random, &lent.addresses),
+        2 => lent.machine.tape_count = bad_count(random, &lent.tape),
+        3 => lent.machine.output_count = bad_count(random, &lent.output),
+        4 => resize(random, &mut lent.addresses),
+        5 => resize(random, &mut lent.numbers),
+        6 => {
+            let length = around(random, GREATEST.cells);
+            for cells in [&mut lent.addresses, &mut lent.numbers, &mut lent.taints] {
+                cells.resize(length, 0);
+            }
+        }
+        7 => lent.tape.resize(around(random, GREATEST.tape), 0),
+        8 => lent.output.resize(around(random, GREATEST.output), 0),
+        9 if used > 1 => {
+            let place = random.below(used as u64 - 1) as usize;
+            lent.addresses[place] = lent.addresses[place + 1];
+        }
+        10 if used > 1 => {
+            let place = random.below(used as u64 - 1) as usize;
+            lent.addresses.swap(place, place + 1);
+        }
+        11 if used > 0 => {
+            lent.addresses[used - 1] = random.pick(&[HEAP_END - 1, HEAP_END, P, u64::MAX]);
+        }
+        12 => set_one(random, &mut lent.numbers, &[P, P + 1, u64::MAX]),
+        // Beyond the counts anything may stand.
+        _ => {
+            for buffer in [&mut lent.addresses, &mut lent.numbers, &mut lent.taints] {
+                let start = used.min(buffer.len());
+                buffer[start..].fill(random.draw());
+            }
+        }
+    }
+}
+
+/// Damages marks, which the plain run does not look at, or marked numbers.
+pub fn taints(random: &mut SplitMix64, lent: &mut Lent) {
+    match random.below(5) {
+        0 => resize(random, &mut lent.taints),
+        1 => set_one(random, &mut lent.taints, &[1, 2, u64::MAX]),
+        2 => lent.register_taints |= 1 << random.below(64),
+        3 => {
+            let register = random.below(10) as usize;
+            lent.register_taints |= 1 << register;
+            lent.machine.registers[register] = random.pick(&[P - 1, P, P + 1, u64::MAX]);
+        }
+        _ => {
+            let place = random.below(lent.numbers.len().max(1) as u64) as usize;
+            if let (Some(taint), Some(number)) =
+                (lent.taints.get_mut(place), lent.numbers.get_mut(place))
+            {
+                *taint = 1;
+                *number = random.pick(&[P - 1, P]);
+            }
+        }
+    }
+}
+
+/// A program's words.
+pub fn words(random: &mut SplitMix64, words: &mut Vec<u64>) {
+    let place = random.below(words.len().max(1) as u64) as usize;
+    match random.below(8) {
+        0 => words.truncate(place),
+        1 => words.push(random.draw()),
+        2 => repeat(random, words),
+        3..=5 if !words.is_empty() => words[place] ^= 1 << random.below(64),
+        6 if !words.is_empty() => words[place] = random.draw(),
+        7 if !words.is_empty() => {
+            words.remove(place);
+        }
+        _ => words.clear(),
+    }
+}
+
+/// A program's text.
+pub fn text(random: &mut SplitMix64, text: &mut Vec<u8>) {
+    let place = random.below(text.len().max(1) as u64) as usize;
+    let byte = random.pick(b"0f9ag/:`G\n\r \x00\xff");
+    match random.below(12) {
+        0 => text.truncate(place),
+        1 => {
+            text.pop();
+        }
+        2 => text.push(byte),
+        3 if !text.is_empty() => text.insert(place, byte),
+        4..=6 if !text.is_empty() => text[place] = byte,
+        7 if !text.is_empty() => {
+            text.remove(place);
+        }
+        8 if !text.is_empty() => text[place] = text[place].to_ascii_uppercase(),
+        9 => {
+            // A line of none, one or several words.
+            let count = random.below(6);
+            let line: String = (0..count)
+                .map(|_| format!("{:016x}", random.draw()))
+                .collect();
+            text.extend_from_slice(line.as_bytes());
+            text.push(b'\n');
+        }
+        10 => many_lines(random, text),
+        _ => text.clear(),
+    }
+}
+
+/// So many frames that their number or their bytes are around the most.
+fn many_lines(random: &mut SplitMix64, text: &mut Vec<u8>) {
+    if random.percent(50) {
+        // The shortest frame, END.
+        let most = around(random, 512);
+        let lines = text.iter().filter(|byte| **byte == b'\n').count();
+        for _ in lines..most {
+            text.extend_from_slice(b"000000000000000b\n");
+        }
+    } else {
+        let most = around(random, 65_536);
+        text.resize(most.max(text.len()), b'0');
+        if let Some(last) = text.last_mut() {
+            *last = b'\n';
+        }
+    }
+}
+
+/// The words over and over, so that their number of frames is around the most or far above it.
+fn repeat(random: &mut SplitMix64, words: &mut Vec<u64>) {
+    let most = random.pick(&[510, 511, 512, 513, 514, 1500]);
+    words.resize(words.len().max(most), 11);
+}
+
+/// One below, the limit itself, one above.
+fn around(random: &mut SplitMix64, limit: usize) -> usize {
+    limit - 1 + random.below(3) as usize
+}
+
+/// Its whole length, or more.
+fn bad_count(random: &mut SplitMix64, buffer: &[u64]) -> u64 {
+    let length = buffer.len() as u64;
+    random.pick(&[
+        length,
+        length + 1,
+        length + 1000,
+        1 << 32,
+        1 << 63,
+        u64::MAX - 1,
+        u64::MAX,
+    ])
+}
+
+/// One element more or fewer.
+fn resize(random: &mut SplitMix64, buffer: &mut Vec<u64>) {
+    if random.percent(50) {
+        buffer.push(0);
+    } else {
+        buffer.pop();
+    }
+}
+
+fn set_one(random: &mut SplitMix64, buffer: &mut [u64], numbers: &[u64]) {
+    let place = random.below(buffer.len().max(1) as u64) as usize;
+    if let Some(element) = buffer.get_mut(place) {
+        *element = random.pick(numbers);
+    }
+}

@@ -1,0 +1,70 @@
+//! States as they are lent: in buffers of some length, with marks, and pairs that differ in marked numbers alone.
+
+use ola_library::Lent;
+use oracle::domain::P;
+use oracle::first_list::values;
+use oracle::splitmix::SplitMix64;
+use oracle::state::State;
+
+use crate::lending::lend;
+use crate::model::Capacity;
+
+/// In buffers with little or much free space, and with any PSP.
+pub fn lent_start(random: &mut SplitMix64, state: &State) -> Lent {
+    let capacity = Capacity {
+        cells: state.cells.len() + random.pick(&[0, 1, 2, 8, 100]),
+        tape: state.tape.len() + random.pick(&[0, 1, 4, 12, 100]),
+        output: state.output.len() + random.pick(&[0, 1, 4, 12, 100]),
+    };
+    let mut lent = lend(state, capacity);
+    if random.percent(30) {
+        lent.machine.psp = values::any(random);
+    }
+    lent
+}
+
+/// Some registers and cells become marked; a marked number is below p.
+pub fn taint(random: &mut SplitMix64, lent: &mut Lent) {
+    let chance = random.pick(&[2, 5, 15, 40]);
+    for (register, number) in lent.machine.registers.iter_mut().enumerate() {
+        if random.percent(chance) {
+            lent.register_taints |= 1 << register;
+            *number %= P;
+        }
+    }
+    let cells = lent.taints.iter_mut().zip(&mut lent.numbers);
+    for (taint, number) in cells.take(lent.machine.cell_count as usize) {
+        if random.percent(chance) {
+            *taint = 1;
+            *number %= P;
+        }
+    }
+}
+
+/// A start alike: other marked numbers, and anything beyond the counts.
+pub fn twin(random: &mut SplitMix64, lent: &Lent) -> Lent {
+    let mut twin = lent.clone();
+    for (register, number) in twin.machine.registers.iter_mut().enumerate() {
+        if twin.register_taints >> register & 1 == 1 {
+            *number = values::any(random) % P;
+        }
+    }
+    let machine = &twin.machine;
+    let cells = machine.cell_count as usize;
+    for (taint, number) in twin.taints.iter().zip(&mut twin.numbers).take(cells) {
+        if *taint == 1 {
+            *number = values::any(random) % P;
+        }
+    }
+    for (buffer, count) in [
+        (&mut twin.addresses, cells),
+        (&mut twin.numbers, cells),
+        (&mut twin.taints, cells),
+        (&mut twin.tape, machine.tape_count as usize),
+        (&mut twin.output, machine.output_count as usize),
+    ] {
+        let used = count.min(buffer.len());
+        buffer[used..].fill(random.draw());
+    }
+    twin
+}

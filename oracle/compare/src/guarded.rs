@@ -1,0 +1,264 @@
+//! The library's guarded run: pairs of starts that differ in marked numbers alone, the plain run beside it, and the model, which says where
+//! refusal 18 comes.
+
+use ola_library::{run, run_tainted, Answer, Lent, Machine, Program};
+use oracle::frames::encode;
+use oracle::splitmix::SplitMix64;
+
+use crate::damage;
+use crate::entry::Run;
+use crate::generate::{self, starts, Form};
+use crate::lending::difference;
+use crate::model::{all_sinks, Sink};
+use crate::options::Options;
+use crate::predict::{predict, Prediction};
+use crate::progress::Progress;
+use crate::tables::{grouped, head, row};
+
+/// Long enough for marks to spread.
+const MOST_STEPS: u64 = 300;
+
+pub fn compare(options: &Options) -> Result<(), String> {
+    let mut counts = Counts::default();
+    let mut progress = Progress::new("guarded programs", options.count);
+    for number in options.numbers() {
+        compare_program(options.seed, number, &mut counts)?;
+        progress.show(number);
+    }
+    print!("{}", counts.tables(options));
+    if options.only.is_some() {
+        return Ok(());
+    }
+    counts.complete()
+}
+
+fn compare_program(seed: u64, number: u64, counts: &mut Counts) -> Result<(), String> {
+    let mut random = generate::random_of(seed, number);
+    let form = draw_form(&mut random);
+    let case = generate::case(&mut random, form);
+    let mut words = encode(&case.program);
+    if random.percent(1) {
+        damage::words(&mut random, &mut words);
+    }
+    let budget = case.budget.min(MOST_STEPS);
+    let program = Program::Words {
+        words: &words,
+        budget,
+    };
+    let mut start = starts::lent_start(&mut random, &case.start);
+    if random.percent(3) {
+        damage::plain_state(&mut random, &mut start);
+    }
+    // Last, so that each marked number is below p.
+    starts::taint(&mut random, &mut start);
+    let twin = starts::twin(&mut random, &start);
+
+    compare_pair(program, &start, &twin, counts).map_err(|what| {
+        format!("VIOLATION: {what}\nagain with: guarded --seed {seed:x} --only {number}\nwords {words:x?}\nbudget {budget}\nstart {start:x?}\ntwin {twin:x?}")
+    })
+}
+
+fn draw_form(random: &mut SplitMix64) -> Form {
+    match random.below(100) {
+        0..=14 => Form::Loops,
+        15..=64 => Form::Random,
+        65..=89 => Form::AnyOperands,
+        _ => Form::Edges,
+    }
+}
+
+fn compare_pair(
+    program: Program,
+    start: &Lent,
+    twin: &Lent,
+    counts: &mut Counts,
+) -> Result<(), String> {
+    let (answer, left, predicted) = guarded(program, start)?;
+    let (twin_answer, twin_left, _) = guarded(program, twin)?;
+    if answer != twin_answer {
+        return Err(format!("pair: {answer:x?} and {twin_answer:x?}"));
+    }
+    alike(&left, &twin_left).map_err(|what| format!("pair after {answer:x?}: {what}"))?;
+    beside_plain(program, start, &answer, &left)?;
+    let cells = start.machine.cell_count as usize;
+    let is_different = start.machine != twin.machine
+        || same_used("numbers", cells, &start.numbers, &twin.numbers).is_err();
+    counts.count(&answer, predicted.sink, is_different);
+    Ok(())
+}
+
+/// The guarded run, held to the model.
+fn guarded(program: Program, start: &Lent) -> Result<(Answer, Lent, Prediction), String> {
+    let predicted = predict(program, start, Run::Tainted);
+    let mut left = start.clone();
+    let answer = run_tainted(program, &mut left);
+    predicted.holds(&answer, &left)?;
+    Ok((answer, left, predicted))
+}
+
+/// Demand 3's 'alike', and what a machine has beside it.
+fn alike(one: &Lent, other: &Lent) -> Result<(), String> {
+    let (a, b) = (&one.machine, &other.machine);
+    let mut registers = a.registers.iter().zip(&b.registers).enumerate();
+    let same_registers =
+        registers.all(|(register, (a, b))| one.register_taints >> register & 1 == 1 || a == b);
+    let same_rest = Machine {
+        registers: a.registers,
+        ..*b
+    } == *a;
+    if !same_registers || !same_rest || one.register_taints != other.register_taints {
+        return Err(format!("machines {a:x?} and {b:x?}"));
+    }
+    let cells = a.cell_count as usize;
+    same_used("addresses", cells, &one.addresses, &other.addresses)?;
+    same_used("taints", cells, &one.taints, &other.taints)?;
+    same_used("tape", a.tape_count as usize, &one.tape, &other.tape)?;
+    same_used(
+        "output",
+        a.output_count as usize,
+        &one.output,
+        &other.output,
+    )?;
+    let numbers = one.numbers.iter().zip(&other.numbers).take(cells);
+    for (place, (a, b)) in numbers.enumerate() {
+        let is_tainted = one.taints.get(place) == Some(&1);
+        if !is_tainted && a != b {
+            return Err(format!("numbers[{place}]: {a:x} and {b:x}"));
+        }
+    }
+    Ok(())
+}
+
+/// As far as count and length go.
+fn same_used(name: &str, count: usize, one: &[u64], other: &[u64]) -> Result<(), String> {
+    let mut pairs = one.iter().zip(other).take(count).enumerate();
+    match pairs.find(|(_, (a, b))| a != b) {
+        None => Ok(()),
+        Some((place, (a, b))) => Err(format!("{name}[{place}]: {a:x} and {b:x}")),
+    }
+}
+
+/// Without 18 the guarded run is the plain run; with 18 after k steps it left what the plain run with budget k leaves.
+fn beside_plain(
+    program: Program,
+    start: &Lent,
+    answer: &Answer,
+    left: &Lent,
+) -> Result<(), String> {
+    let Program::Words { words, budget } = program else {
+        return Err("only words are compared here".to_string());
+    };
+    let is_tainted = answer.refused == 1 && answer.number == 18;
+    if is_tainted && answer.steps >= budget {
+        return Err(format!("18 after {} steps of {budget}", answer.steps));
+    }
+    let (plain_budget, expected) = if is_tainted {
+        let paused = Answer {
+            number: 3,
+            steps: answer.steps,
+            ..Answer::default()
+        };
+        (answer.steps, paused)
+    } else {
+        (budget, *answer)
+    };
+    let program = Program::Words {
+        words,
+        budget: plain_budget,
+    };
+    let mut plain = start.clone();
+    let plain_answer = run(program, &mut plain);
+    if plain_answer != expected {
+        return Err(format!("guarded {answer:x?}, plain {plain_answer:x?}"));
+    }
+    // The plain run has no marks.
+    let expected = Lent {
+        register_taints: start.register_taints,
+        taints: start.taints.clone(),
+        ..left.clone()
+    };
+    match difference(&expected, &plain) {
+        None => Ok(()),
+        Some(what) => Err(format!("guarded and plain after {answer:x?}: {what}")),
+    }
+}
+
+#[derive(Default)]
+struct Counts {
+    programs: u64,
+    /// Pairs that differ in a marked number.
+    different: u64,
+    steps: u64,
+    outcomes: [u64; 4],
+    refusals: [u64; 19],
+    /// As in `all_sinks`.
+    sinks: Vec<u64>,
+    /// The most steps before refusal 18.
+    latest: u64,
+}
+
+impl Counts {
+    fn count(&mut self, answer: &Answer, sink: Option<Sink>, is_different: bool) {
+        self.programs += 1;
+        self.different += is_different as u64;
+        self.steps += answer.steps;
+        if answer.refused == 1 {
+            self.refusals[answer.number as usize] += 1;
+        } else {
+            self.outcomes[answer.number as usize] += 1;
+        }
+        let sinks = all_sinks();
+        self.sinks.resize(sinks.len(), 0);
+        if let Some(sink) = sink {
+            let place = sinks.iter().position(|listed| *listed == sink);
+            self.sinks[place.expect("every sink is listed")] += 1;
+            self.latest = self.latest.max(answer.steps);
+        }
+    }
+
+    fn complete(&self) -> Result<(), String> {
+        let sinks = all_sinks();
+        let missing: Vec<String> = sinks
+            .iter()
+            .zip(&self.sinks)
+            .filter(|(_, count)| **count == 0)
+            .map(|(sink, _)| sink.name())
+            .collect();
+        if missing.is_empty() {
+            Ok(())
+        } else {
+            Err(format!("never met: {}", missing.join("; ")))
+        }
+    }
+
+    fn tables(&self, options: &Options) -> String {
+        let mut text = String::new();
+        head(&mut text, &["What", "Count"]);
+        row(&mut text, "seed", &[format!("{:x}", options.seed)]);
+        row(
+            &mut text,
+            "programs, each with a pair of starts",
+            &[grouped(self.programs)],
+        );
+        row(
+            &mut text,
+            "pairs that differ in a marked number",
+            &[grouped(self.different)],
+        );
+        row(&mut text, "guarded steps", &[grouped(self.steps)]);
+        for (number, count) in self.outcomes.into_iter().enumerate() {
+            row(&mut text, &format!("e{number}"), &[grouped(count)]);
+        }
+        for (number, count) in self.refusals.into_iter().enumerate().skip(1) {
+            row(&mut text, &format!("refusal {number}"), &[grouped(count)]);
+        }
+        row(&mut text, "most steps before 18", &[grouped(self.latest)]);
+        row(&mut text, "violations", &["0".to_string()]);
+
+        head(&mut text, &["Sink", "Refused 18 there"]);
+        for (sink, count) in all_sinks().iter().zip(&self.sinks) {
+            row(&mut text, &sink.name(), &[grouped(*count)]);
+        }
+        text
+    }
+}

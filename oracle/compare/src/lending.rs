@@ -1,0 +1,149 @@
+//! What is lent to the library: made from a state, made into a model, and what must be left in it.
+
+use ola_library::{Lent, Machine};
+use oracle::domain::{MOST_CELLS, MOST_OUTPUT, MOST_TAPE};
+use oracle::state::State;
+
+use crate::model::{Capacity, Model};
+
+/// What stands in the buffers beyond their counts.
+const UNUSED: u64 = 0xA5A5_A5A5_A5A5_A5A5;
+
+/// The longest buffers that may be lent.
+pub const GREATEST: Capacity = Capacity {
+    cells: MOST_CELLS,
+    tape: MOST_TAPE as usize,
+    output: MOST_OUTPUT,
+};
+
+/// A state without marks, in buffers that it fits in.
+pub fn lend(state: &State, capacity: Capacity) -> Lent {
+    let mut lent = Lent {
+        machine: machine_of(state),
+        register_taints: 0,
+        addresses: vec![UNUSED; capacity.cells],
+        numbers: vec![UNUSED; capacity.cells],
+        taints: vec![UNUSED; capacity.cells],
+        tape: vec![UNUSED; capacity.tape],
+        output: vec![UNUSED; capacity.output],
+    };
+    put(&mut lent.addresses, state.cells.keys());
+    put(&mut lent.numbers, state.cells.values());
+    lent.taints[..state.cells.len()].fill(0);
+    put(&mut lent.tape, &state.tape);
+    put(&mut lent.output, &state.output);
+    lent
+}
+
+/// The model of a guarded start that the entry accepts.
+pub fn tainted_model(lent: &Lent) -> Model {
+    let mut model = plain_model(lent);
+    let count = lent.machine.cell_count as usize;
+    model.register_taints = lent.register_taints;
+    model.tainted_cells = lent.addresses[..count]
+        .iter()
+        .zip(&lent.taints)
+        .filter(|(_, taint)| **taint == 1)
+        .map(|(address, _)| *address)
+        .collect();
+    model
+}
+
+/// The model of a plain start that the entry accepts.
+pub fn plain_model(lent: &Lent) -> Model {
+    let machine = &lent.machine;
+    let count = machine.cell_count as usize;
+    let addresses = lent.addresses[..count].iter().copied();
+    let state = State {
+        registers: machine.registers,
+        pc: machine.pc,
+        clk: machine.clk,
+        psp_start: machine.psp,
+        storage_address: machine.storage_addr,
+        cells: addresses.zip(lent.numbers.iter().copied()).collect(),
+        tape: lent.tape[..machine.tape_count as usize].to_vec(),
+        output: lent.output[..machine.output_count as usize].to_vec(),
+    };
+    let capacity = Capacity {
+        cells: lent.addresses.len(),
+        tape: lent.tape.len(),
+        output: lent.output.len(),
+    };
+    Model::plain(state, capacity)
+}
+
+/// What the plain run of `model` leaves in the buffers of `start`, used and unused elements alike.
+pub fn left_plain(start: &Lent, model: &Model) -> Lent {
+    let mut lent = start.clone();
+    lent.machine = machine_of(&model.state);
+    put(&mut lent.addresses, model.state.cells.keys());
+    put(&mut lent.numbers, model.state.cells.values());
+    put(&mut lent.tape, &model.state.tape);
+    // An output that was emptied is not cleared.
+    put(&mut lent.output, &model.emptied_output);
+    put(&mut lent.output, &model.state.output);
+    lent
+}
+
+/// The same for a guarded run.
+pub fn left_tainted(start: &Lent, model: &Model) -> Lent {
+    let mut lent = left_plain(start, model);
+    lent.register_taints = model.register_taints;
+    for (taint, address) in lent.taints.iter_mut().zip(model.state.cells.keys()) {
+        *taint = model.tainted_cells.contains(address) as u64;
+    }
+    lent
+}
+
+/// The first place where two differ.
+pub fn difference(expected: &Lent, given: &Lent) -> Option<String> {
+    if expected == given {
+        return None;
+    }
+    if expected.machine != given.machine {
+        return Some(format!(
+            "machine: expected {:x?}, given {:x?}",
+            expected.machine, given.machine
+        ));
+    }
+    if expected.register_taints != given.register_taints {
+        return Some(format!(
+            "register taints: expected {:x}, given {:x}",
+            expected.register_taints, given.register_taints
+        ));
+    }
+    [
+        ("addresses", &expected.addresses, &given.addresses),
+        ("numbers", &expected.numbers, &given.numbers),
+        ("taints", &expected.taints, &given.taints),
+        ("tape", &expected.tape, &given.tape),
+        ("output", &expected.output, &given.output),
+    ]
+    .into_iter()
+    .find_map(|(name, expected, given)| {
+        let place = (0..expected.len()).find(|place| expected[*place] != given[*place])?;
+        let (expected, given) = (expected[place], given[place]);
+        Some(format!(
+            "{name}[{place}]: expected {expected:x}, given {given:x}"
+        ))
+    })
+}
+
+pub fn machine_of(state: &State) -> Machine {
+    Machine {
+        registers: state.registers,
+        pc: state.pc,
+        clk: state.clk,
+        psp: state.psp_start,
+        storage_addr: state.storage_address,
+        cell_count: state.cells.len() as u64,
+        tape_count: state.tape.len() as u64,
+        output_count: state.output.len() as u64,
+    }
+}
+
+fn put<'a>(buffer: &mut [u64], values: impl IntoIterator<Item = &'a u64>) {
+    for (element, value) in buffer.iter_mut().zip(values) {
+        *element = *value;
+    }
+}

@@ -1,0 +1,193 @@
+//! The cases of `first_list` as the program `replay` reads them, and what it must write for them, found by running the source.
+//!
+//! The format is that of crates/transcript/src/lib.rt. After a refusal the source's clk, registers, tape and output are written; pc
+//! and cells are those of before the refused step, as document 01 has it.
+
+use std::fmt::Write;
+
+use crate::case::Case;
+use crate::domain::{MOST_CELLS, MOST_OUTPUT, MOST_TAPE};
+use crate::first_list::{cases, SEED};
+use crate::frames::encode;
+use crate::outcome::{Answer, Outcome};
+use crate::state::State;
+use crate::stepper::{Mode, Stepper};
+
+/// What a lent buffer holds where nothing was written.
+const UNUSED: u64 = 0xEEEE_EEEE_EEEE_EEEE;
+
+/// What the program is to read.
+pub fn input() -> String {
+    let mut text = format!(
+        "\
+# Cases for the program `replay`. Its stored output has the answers of `OlaContractExecutor::resume` (Sin7Y/olavm 74fb50ee61) in its mode
+# without traces, built for release. Both files are made by
+#   cargo run --release --offline --manifest-path oracle/Cargo.toml -- replay crates/replay
+# The format is described in crates/transcript/src/lib.rt. Cases come first from document 01 and by hand, then from SplitMix64 with the
+# seed {SEED:016x}. All are in the domain that document 01 compares.
+"
+    );
+    for (index, case) in cases().iter().enumerate() {
+        text.push('\n');
+        write_case(&mut text, index + 1, case);
+    }
+    text
+}
+
+/// What the program must write.
+pub fn output() -> String {
+    let mut text = String::new();
+    for (index, case) in cases().iter().enumerate() {
+        write_answers(&mut text, index + 1, case);
+    }
+    text
+}
+
+fn write_case(text: &mut String, number: usize, case: &Case) {
+    let default = parts(&State::default());
+    writeln!(text, "case {number} {}", case.name).unwrap();
+    write_line(text, "words", &encode(&case.program));
+    for (part, default) in parts(&case.start).iter().zip(default) {
+        if part.values != default.values {
+            write_line(text, part.name, &part.values);
+        }
+    }
+    write_line(text, "plain", &[case.budget]);
+}
+
+/// The steps one by one, then the whole run in one call from the same start.
+fn write_answers(text: &mut String, number: usize, case: &Case) {
+    writeln!(text, "case {number} {}", case.name).unwrap();
+    write_line(text, "plain", &[case.budget]);
+
+    let mut shown = Shown::new(&case.start);
+    let mut stepper = Stepper::new(&case.program, &case.start, Mode::Plain);
+    let mut before = case.start.clone();
+    let mut done = 0;
+    while done < case.budget {
+        let answer = stepper.step();
+        done += 1;
+        let after = left(&answer, &before, stepper.state());
+        shown.write_call(text, &answer, &after);
+        before = after;
+        if answer.outcome != Outcome::Paused {
+            break;
+        }
+    }
+
+    let mut stepper = Stepper::new(&case.program, &case.start, Mode::Plain);
+    let answer = stepper.run(case.budget);
+    let after = left(&answer, &before, stepper.state());
+    text.push_str("run ");
+    shown.write_call(text, &answer, &after);
+}
+
+/// What a call leaves: after a refused step, pc and cells of before it.
+fn left(answer: &Answer, before: &State, after: State) -> State {
+    match &answer.outcome {
+        Outcome::Failed(failure) if failure.refusal() != Some(17) => State {
+            pc: before.pc,
+            cells: before.cells.clone(),
+            ..after
+        },
+        _ => after,
+    }
+}
+
+fn write_answer(text: &mut String, answer: &Answer, after: &State) {
+    let label = match &answer.outcome {
+        Outcome::Ended(_) => "e0".to_string(),
+        Outcome::Calling(_) => "e1".to_string(),
+        Outcome::DelegateCalling(_) => "e2".to_string(),
+        Outcome::Paused => "e3".to_string(),
+        Outcome::Failed(failure) => failure
+            .refusal()
+            .expect("a compared refusal has a number")
+            .to_string(),
+        Outcome::Panicked(message) => panic!("a compared step does not panic: {message}"),
+    };
+    let kilosteps = (after.clk + 500) / 1000;
+    write_line(
+        text,
+        &label,
+        &[answer.steps, after.pc, after.clk, kilosteps],
+    );
+    if let Outcome::Calling(callee) | Outcome::DelegateCalling(callee) = &answer.outcome {
+        write_line(text, "callee", callee);
+    }
+}
+
+fn write_line(text: &mut String, word: &str, numbers: &[u64]) {
+    text.push_str(word);
+    for number in numbers {
+        write!(text, " {number:x}").unwrap();
+    }
+    text.push('\n');
+}
+
+/// A part of a state: the numbers of one line.
+struct Part {
+    name: &'static str,
+    values: Vec<u64>,
+}
+
+fn parts(state: &State) -> [Part; 7] {
+    let part = |name, values| Part { name, values };
+    let [c0, c1, c2, c3] = state.storage_address;
+    let counts = [state.cells.len(), state.tape.len(), state.output.len()];
+    [
+        part("registers", state.registers.to_vec()),
+        part(
+            "state",
+            vec![state.pc, state.clk, state.psp_start, c0, c1, c2, c3],
+        ),
+        part("used", counts.map(|count| count as u64).to_vec()),
+        part("addresses", state.cells.keys().copied().collect()),
+        part("numbers", state.cells.values().copied().collect()),
+        part("tape", state.tape.clone()),
+        part("output", state.output.clone()),
+    ]
+}
+
+/// What each part held when it was last written, the lent buffers in their whole length.
+struct Shown([Part; 7]);
+
+impl Shown {
+    fn new(start: &State) -> Shown {
+        let mut parts = parts(start);
+        let lengths = [
+            0,
+            0,
+            0,
+            MOST_CELLS,
+            MOST_CELLS,
+            MOST_TAPE as usize,
+            MOST_OUTPUT,
+        ];
+        for (part, length) in parts.iter_mut().zip(lengths) {
+            part.values.resize(length.max(part.values.len()), UNUSED);
+        }
+        Shown(parts)
+    }
+
+    fn write_call(&mut self, text: &mut String, answer: &Answer, now: &State) {
+        write_answer(text, answer, now);
+        let [_, state, ..] = &mut self.0;
+        if answer.steps != 0 {
+            // The answer's line has them.
+            state.values[..2].copy_from_slice(&[now.pc, now.clk]);
+        }
+        for (shown, now) in self.0.iter_mut().zip(parts(now)) {
+            let mut changes = String::new();
+            for (index, (shown, now)) in shown.values.iter_mut().zip(now.values).enumerate() {
+                if *shown != now {
+                    write!(changes, " {index:x}={now:x}").unwrap();
+                    *shown = now;
+                }
+            }
+            if !changes.is_empty() {
+                writeln!(text, "{}{changes}", now.name).unwrap();
+            }
+        }
+    }
+}
