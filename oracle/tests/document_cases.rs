@@ -2,7 +2,8 @@
 
 use oracle::domain::{P, STACK_END};
 use oracle::first_list::cases;
-use oracle::frames::{decode, encode, NoProgram};
+use oracle::first_list::operand_kinds::compared_opcodes;
+use oracle::frames::{decode, encode, Frame, NoProgram, Operand};
 use oracle::outcome::{Answer, Outcome};
 use oracle::state::State;
 use oracle::stepper::{Mode, Stepper};
@@ -124,6 +125,33 @@ fn each_compared_refusal_is_in_the_list() {
         found.into_iter().collect::<Vec<_>>(),
         [4, 6, 8, 9, 10, 11, 12, 13, 14, 17]
     );
+}
+
+#[test]
+fn each_compared_opcode_and_operand_kind_is_in_the_list() {
+    let cases = cases();
+    assert!(cases.len() >= 2000);
+    for opcode in compared_opcodes() {
+        assert!(cases.iter().any(|case| case.program[0].opcode == opcode));
+    }
+    for kind in 0..7 {
+        let has = |operand: Operand| kind_of(operand) == kind;
+        for operand_of in [|frame: &Frame| frame.op0, |frame| frame.op1, |frame| frame.dst] {
+            assert!(cases.iter().any(|case| has(operand_of(&case.program[0]))));
+        }
+    }
+}
+
+fn kind_of(operand: Operand) -> u32 {
+    match operand {
+        Operand::Absent => 0,
+        Operand::Immediate(_) => 1,
+        Operand::Register(_) => 2,
+        Operand::Offset(..) => 3,
+        Operand::Factor(..) => 4,
+        Operand::Psp => 5,
+        Operand::Pc => 6,
+    }
 }
 
 #[test]

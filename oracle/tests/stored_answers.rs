@@ -1,16 +1,17 @@
-//! The stored lists are what the source answers today.
+//! The stored files are what the source answers today.
 
-fn stored(name: &str) -> String {
-    let path = format!("{}/answers/{name}", env!("CARGO_MANIFEST_DIR"));
+fn stored(path: &str) -> String {
+    let path = format!("{}/{path}", env!("CARGO_MANIFEST_DIR"));
     std::fs::read_to_string(path).unwrap()
 }
 
 #[test]
-fn the_first_list() {
-    assert!(stored("first.txt") == oracle::first_list::text());
+fn the_replay() {
+    assert!(stored("../crates/replay/stdin") == oracle::replay::input());
+    assert!(stored("../crates/replay/stdout") == oracle::replay::output());
 }
 
 #[test]
 fn the_differences() {
-    assert!(stored("differences.txt") == oracle::differences::text());
+    assert!(stored("answers/differences.txt") == oracle::differences::text());
 }

@@ -1,5 +1,5 @@
 // CALL and RET: the frame below R9.
-use crate::Effect;
+use crate::Action;
 use crate::memory;
 use hardware::cells;
 use hardware::cells::Cell;
@@ -8,6 +8,7 @@ ghost use mathlib.Core.Path.{_≡_};
 ghost use Prim.Native.Nat.{_-_};
 ghost use lib.ListN.{getD};
 ghost use Rattle.hardware.specs.Buffers.{cellsOf, cellOf, Rising, Ordered};
+ghost use Rattle.effects.specs.Actions.{meant};
 ghost use Rattle.effects.specs.Effects.{returnsFrom};
 ghost use Rattle.effects.specs.Operations.{cellBelow, hasCapacity, callsWhere};
 
@@ -18,13 +19,13 @@ pub fn call(
     count: usize,
     target: u64,
     next: u64,
-) -> Effect
+) -> Action
     requires { ⌜ Rising count (now addresses) ⌝ }
-    ensures { λ r. ⌜ r ≡ callsWhere (hasCapacity (now (addresses .entry)) count (getD (now (registers .entry)) 9 0 - 1) 1) (getD (now (registers .entry)) 9 0) next target ⌝ }
+    ensures { λ r. ⌜ meant r ≡ callsWhere (hasCapacity (now (addresses .entry)) count (getD (now (registers .entry)) 9 0 - 1) 1) (getD (now (registers .entry)) 9 0) next target ⌝ }
 {
     let frame = registers[9];
     if frame == 0 {
-        return Effect::Refuse(Refusal::StoreFault);
+        return Action::refuse(Refusal::StoreFault);
     }
     memory::store_cell(addresses, count, frame - 1, next, false, target)
 }
@@ -56,31 +57,26 @@ pub fn return_from(
     numbers: &[u64],
     taints: &[u64],
     count: usize,
-) -> Effect
+) -> Action
     requires { ⌜ Ordered tainted count (now addresses) (now numbers) (now taints) ⌝ }
-    ensures { λ r. ⌜ r ≡ returnsFrom tainted (cellsOf count (now (addresses .entry)) (now (numbers .entry))) (cellsOf count (now (addresses .entry)) (now (taints .entry))) (getD (now (registers .entry)) 9 0) ⌝ }
+    ensures { λ r. ⌜ meant r ≡ returnsFrom tainted (cellsOf count (now (addresses .entry)) (now (numbers .entry))) (cellsOf count (now (addresses .entry)) (now (taints .entry))) (getD (now (registers .entry)) 9 0) ⌝ }
 {
     let frame = registers[9];
     match read_below(tainted, addresses, numbers, taints, count, frame, 1) {
-        Cell::Absent => Effect::Refuse(Refusal::CellAbsent),
+        Cell::Absent => Action::refuse(Refusal::CellAbsent),
         Cell::Present {
             number: pc,
             tainted: sink,
         } => match read_below(tainted, addresses, numbers, taints, count, frame, 2) {
-            Cell::Absent => Effect::Refuse(Refusal::CellAbsent),
+            Cell::Absent => Action::refuse(Refusal::CellAbsent),
             Cell::Present {
                 number,
                 tainted: taint,
             } => {
                 if sink {
-                    return Effect::Sink;
+                    return Action::sink();
                 }
-                Effect::SetRegister {
-                    register: 9,
-                    value: number,
-                    taint,
-                    next: pc,
-                }
+                Action::set_register(9, number, taint, pc)
             }
         },
     }

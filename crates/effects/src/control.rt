@@ -1,5 +1,5 @@
 // ASSERT, RC and CJMP.
-use crate::Effect;
+use crate::Action;
 use crate::Mode;
 use crate::arithmetic;
 use crate::taints;
@@ -13,28 +13,28 @@ ghost use Rattle.rules.specs.declared.Refusal.the-variants.{AssertFailed, Range
 ghost use Rattle.rules.specs.Numbers.{smallEnd};
 ghost use Rattle.rules.specs.Operands.{valueOf};
 ghost use Rattle.program.specs.Rows.{instructionFrom, Sound};
-ghost use Rattle.effects.specs.declared.Effect.the-variants.{Jump};
+ghost use Rattle.effects.specs.Actions.{meant, Jump};
 ghost use Rattle.effects.specs.Effects.{check, jumpsWhere};
 ghost use Rattle.effects.specs.Operations.{op1TaintOf};
 
 // ASSERT.
-pub fn assert_one(a: u64, next: u64) -> Effect
-    ensures { λ r. ⌜ r ≡ check (eqb a 1) AssertFailed (Jump next) ⌝ }
+pub fn assert_one(a: u64, next: u64) -> Action
+    ensures { λ r. ⌜ meant r ≡ check (eqb a 1) AssertFailed (Jump next) ⌝ }
 {
     if a == 1 {
-        return Effect::Jump { next };
+        return Action::jump(next);
     }
-    Effect::Refuse(Refusal::AssertFailed)
+    Action::refuse(Refusal::AssertFailed)
 }
 
 // RC.
-pub fn check_range(a: u64, next: u64) -> Effect
-    ensures { λ r. ⌜ r ≡ check (leb a smallEnd) RangeCheckFailed (Jump next) ⌝ }
+pub fn check_range(a: u64, next: u64) -> Action
+    ensures { λ r. ⌜ meant r ≡ check (leb a smallEnd) RangeCheckFailed (Jump next) ⌝ }
 {
     if a <= arithmetic::SMALL_END {
-        return Effect::Jump { next };
+        return Action::jump(next);
     }
-    Effect::Refuse(Refusal::RangeCheckFailed)
+    Action::refuse(Refusal::RangeCheckFailed)
 }
 
 // CJMP: op1 is evaluated after op0's test.
@@ -46,24 +46,24 @@ pub fn jump_where(
     psp: u64,
     a: u64,
     next: u64,
-) -> Effect
+) -> Action
     requires { ⌜ Sound (now words) row ⌝ }
-    ensures { λ r. ⌜ r ≡ jumpsWhere a (valueOf psp (now (registers .entry)) (instructionFrom (now (words .entry)) row .op1)) (op1TaintOf mode (instructionFrom (now (words .entry)) row)) next ⌝ }
+    ensures { λ r. ⌜ meant r ≡ jumpsWhere a (valueOf psp (now (registers .entry)) (instructionFrom (now (words .entry)) row .op1)) (op1TaintOf mode (instructionFrom (now (words .entry)) row)) next ⌝ }
 {
     if 1 < a {
-        return Effect::Refuse(Refusal::NotSmall);
+        return Action::refuse(Refusal::NotSmall);
     }
-    let place = row.value1;
-    match values::value(row.kind1, row.register1, words[place], registers, psp) {
-        Value::Refused(f) => Effect::Refuse(f),
+    let place = row.value1();
+    match values::value(row.kind1(), row.register1(), words[place], registers, psp) {
+        Value::Refused(f) => Action::refuse(f),
         Value::Is(target) => {
             if taints::op1_taint(mode, row) {
-                return Effect::Sink;
+                return Action::sink();
             }
             if a == 1 {
-                return Effect::Jump { next: target };
+                return Action::jump(target);
             }
-            Effect::Jump { next }
+            Action::jump(next)
         }
     }
 }

@@ -1,5 +1,5 @@
 // MLOAD and MSTORE, and the tests of a store.
-use crate::Effect;
+use crate::Action;
 use goldilocks::FieldElement;
 use hardware::cells;
 use hardware::cells::Cell;
@@ -8,6 +8,7 @@ use rules::Refusal;
 ghost use mathlib.Core.Path.{_≡_};
 ghost use Rattle.rules.specs.Step.{isStorable};
 ghost use Rattle.hardware.specs.Buffers.{cellsOf, cellOf, Rising, Ordered};
+ghost use Rattle.effects.specs.Actions.{meant};
 ghost use Rattle.effects.specs.Operations.{loadsAt, storesAt, testOf, hasCapacity, storesWhere};
 
 // A store's tests pass, or one refuses.
@@ -46,22 +47,17 @@ pub fn store_cell(
     number: u64,
     taint: bool,
     next: u64,
-) -> Effect
+) -> Action
     requires { ⌜ Rising count (now addresses) ⌝ }
-    ensures { λ r. ⌜ r ≡ storesWhere (hasCapacity (now (addresses .entry)) count address 1) address number taint next ⌝ }
+    ensures { λ r. ⌜ meant r ≡ storesWhere (hasCapacity (now (addresses .entry)) count address 1) address number taint next ⌝ }
 {
     match test_store(address, number) {
-        Tested::Refused(f) => Effect::Refuse(f),
+        Tested::Refused(f) => Action::refuse(f),
         Tested::Passes => {
             if cells::has_capacity(addresses, count, address, 1) {
-                return Effect::Store {
-                    address,
-                    number,
-                    taint,
-                    next,
-                };
+                return Action::store(address, number, taint, next);
             }
-            Effect::Refuse(Refusal::NoCapacity)
+            Action::refuse(Refusal::NoCapacity)
         }
     }
 }
@@ -76,21 +72,16 @@ pub fn load(
     numbers: &[u64],
     taints: &[u64],
     count: usize,
-) -> Effect
+) -> Action
     requires { ⌜ Ordered tainted count (now addresses) (now numbers) (now taints) ⌝ }
-    ensures { λ r. ⌜ r ≡ loadsAt (cellOf tainted (cellsOf count (now (addresses .entry)) (now (numbers .entry))) (cellsOf count (now (addresses .entry)) (now (taints .entry)))) address register next ⌝ }
+    ensures { λ r. ⌜ meant r ≡ loadsAt (cellOf tainted (cellsOf count (now (addresses .entry)) (now (numbers .entry))) (cellsOf count (now (addresses .entry)) (now (taints .entry)))) address register next ⌝ }
 {
     let FieldElement::Element(x) = address else {
-        return Effect::Refuse(Refusal::NotInField);
+        return Action::refuse(Refusal::NotInField);
     };
     match cells::read(tainted, addresses, numbers, taints, count, x.value) {
-        Cell::Present { number, tainted } => Effect::SetRegister {
-            register,
-            value: number,
-            taint: tainted,
-            next,
-        },
-        Cell::Absent => Effect::Refuse(Refusal::CellAbsent),
+        Cell::Present { number, tainted } => Action::set_register(register, number, tainted, next),
+        Cell::Absent => Action::refuse(Refusal::CellAbsent),
     }
 }
 
@@ -102,12 +93,12 @@ pub fn store(
     next: u64,
     addresses: &[u64],
     count: usize,
-) -> Effect
+) -> Action
     requires { ⌜ Rising count (now addresses) ⌝ }
-    ensures { λ r. ⌜ r ≡ storesAt (now (addresses .entry)) count address number taint next ⌝ }
+    ensures { λ r. ⌜ meant r ≡ storesAt (now (addresses .entry)) count address number taint next ⌝ }
 {
     let FieldElement::Element(x) = address else {
-        return Effect::Refuse(Refusal::NotInField);
+        return Action::refuse(Refusal::NotInField);
     };
     store_cell(addresses, count, x.value, number, taint, next)
 }

@@ -11,7 +11,7 @@ ghost use lib.ListN.{length};
 ghost use Rattle.rules.specs.Opcodes.{classOf};
 ghost use Rattle.rules.specs.Taint.{registerTaint, operandSink};
 ghost use Rattle.rules.specs.Entry.{lowBits};
-ghost use Rattle.program.specs.Rows.{instructionFrom};
+ghost use Rattle.program.specs.Rows.{fields, instructionFrom};
 ghost use Rattle.operands.specs.Meanings.{RegistersBelow};
 ghost use Rattle.effects.specs.Operations.{op1TaintOf, bothTaintOf, partTaint};
 
@@ -23,7 +23,7 @@ pub fn op1_taint(mode: Mode, row: Row) -> bool
     if !mode.tainted {
         return false;
     }
-    taints::operand_taint(mode.register_taints, row.kind1, row.register1)
+    taints::operand_taint(mode.register_taints, row.kind1(), row.register1())
 }
 
 // Is op0 or op1?
@@ -34,10 +34,10 @@ pub fn both_taint(mode: Mode, row: Row) -> bool
     if !mode.tainted {
         return false;
     }
-    if taints::operand_taint(mode.register_taints, row.kind0, row.register0) {
+    if taints::operand_taint(mode.register_taints, row.kind0(), row.register0()) {
         return true;
     }
-    taints::operand_taint(mode.register_taints, row.kind1, row.register1)
+    taints::operand_taint(mode.register_taints, row.kind1(), row.register1())
 }
 
 // The taint of a register, in a tainted run.
@@ -54,7 +54,7 @@ pub fn register_taint(mode: Mode, register: usize) -> bool
 // Is an operand at which a step stops tainted, in a tainted run?
 pub fn is_operand_sink(mode: Mode, row: Row) -> bool
     requires { ⌜ RegistersBelow row ⌝ }
-    ensures { λ r. ⌜ ((ws : List ℕ) → r ≡ mode .tainted && operandSink (lowBits 10 (mode .«register_taints»)) (classOf (row .opcode)) (instructionFrom ws row)) ⌝ }
+    ensures { λ r. ⌜ ((ws : List ℕ) → r ≡ mode .tainted && operandSink (lowBits 10 (mode .«register_taints»)) (classOf (fields row .opcode)) (instructionFrom ws row)) ⌝ }
 {
     if !mode.tainted {
         return false;

@@ -1,5 +1,5 @@
 // TLOAD, TSTORE and SCCALL.
-use crate::Effect;
+use crate::Action;
 use crate::memory;
 use crate::memory::Tested;
 use crate::taints;
@@ -16,7 +16,7 @@ ghost use Rattle.rules.specs.declared.Refusal.the-variants.{NoCapacity};
 ghost use Rattle.rules.specs.Numbers.{wordEnd};
 ghost use Rattle.rules.specs.Step.{spanFits};
 ghost use Rattle.hardware.specs.Buffers.{Rising};
-ghost use Rattle.effects.specs.declared.Effect.the-variants.{StoreTape, CallContract};
+ghost use Rattle.effects.specs.Actions.{meant, StoreTape, CallContract};
 ghost use Rattle.effects.specs.Effects.{check, sinkWhere, tapeFrom, tapeCount};
 ghost use Rattle.effects.specs.Operations.{testsOf, hasCapacity, loadsPart, onTapeOf, loadsTape, spanAmong, onSpan, partTaint, more};
 
@@ -78,31 +78,27 @@ pub fn store_tape(
     used: usize,
     output: &[u64],
     shown: usize,
-) -> Effect
+) -> Action
     requires { ⌜ Rising count (now addresses) ⌝ }
     requires { ⌜ (tainted ≡ true → length (now taints) ≡ length (now addresses)) ⌝ }
     requires { ⌜ used ≤ length (now tape) ⌝ }
     requires { ⌜ shown ≤ length (now output) ⌝ }
-    ensures { λ r. ⌜ r ≡ onSpan (spanAmong (take count (now (addresses .entry))) start n) (λ at. sinkWhere (partTaint tainted (now (taints .entry)) at n) (check (more used n (now (tape .entry))) NoCapacity (check (more shown n (now (output .entry))) NoCapacity (StoreTape at n next)))) ⌝ }
+    ensures { λ r. ⌜ meant r ≡ onSpan (spanAmong (take count (now (addresses .entry))) start n) (λ at. sinkWhere (partTaint tainted (now (taints .entry)) at n) (check (more used n (now (tape .entry))) NoCapacity (check (more shown n (now (output .entry))) NoCapacity (StoreTape at n next)))) ⌝ }
 {
     match find_cells(addresses, count, start, n) {
-        SpanFound::Refused(f) => Effect::Refuse(f),
+        SpanFound::Refused(f) => Action::refuse(f),
         SpanFound::At(at) => {
             let length = n as usize;
             if taints::is_part_tainted(tainted, taints, at, length) {
-                return Effect::Sink;
+                return Action::sink();
             }
             if tape.len() - used < length {
-                return Effect::Refuse(Refusal::NoCapacity);
+                return Action::refuse(Refusal::NoCapacity);
             }
             if output.len() - shown < length {
-                return Effect::Refuse(Refusal::NoCapacity);
+                return Action::refuse(Refusal::NoCapacity);
             }
-            Effect::StoreTape {
-                at,
-                count: length,
-                next,
-            }
+            Action::store_tape(at, length, next)
         }
     }
 }
@@ -118,26 +114,22 @@ pub fn call_contract(
     count: usize,
     tape: &[u64],
     used: usize,
-) -> Effect
+) -> Action
     requires { ⌜ Rising count (now addresses) ⌝ }
     requires { ⌜ (tainted ≡ true → length (now taints) ≡ length (now addresses)) ⌝ }
     requires { ⌜ used ≤ length (now tape) ⌝ }
-    ensures { λ r. ⌜ r ≡ onSpan (spanAmong (take count (now (addresses .entry))) start 4) (λ at. sinkWhere (partTaint tainted (now (taints .entry)) at 4) (check (more used 12 (now (tape .entry))) NoCapacity (CallContract at (eqb b 1) next))) ⌝ }
+    ensures { λ r. ⌜ meant r ≡ onSpan (spanAmong (take count (now (addresses .entry))) start 4) (λ at. sinkWhere (partTaint tainted (now (taints .entry)) at 4) (check (more used 12 (now (tape .entry))) NoCapacity (CallContract at (eqb b 1) next))) ⌝ }
 {
     match find_cells(addresses, count, start, 4) {
-        SpanFound::Refused(f) => Effect::Refuse(f),
+        SpanFound::Refused(f) => Action::refuse(f),
         SpanFound::At(at) => {
             if taints::is_part_tainted(tainted, taints, at, 4) {
-                return Effect::Sink;
+                return Action::sink();
             }
             if tape.len() - used < 12 {
-                return Effect::Refuse(Refusal::NoCapacity);
+                return Action::refuse(Refusal::NoCapacity);
             }
-            Effect::CallContract {
-                at,
-                delegate: b == 1,
-                next,
-            }
+            Action::call_contract(at, b == 1, next)
         }
     }
 }
@@ -199,27 +191,22 @@ fn load_part(
     addresses: &[u64],
     count: usize,
     next: u64,
-) -> Effect
+) -> Action
     requires { ⌜ Rising count (now addresses) ⌝ }
     requires { ⌜ from + n ≤ length (now tape) ⌝ }
-    ensures { λ r. ⌜ r ≡ loadsPart (now (tape .entry)) from n address (hasCapacity (now (addresses .entry)) count address n) next ⌝ }
+    ensures { λ r. ⌜ meant r ≡ loadsPart (now (tape .entry)) from n address (hasCapacity (now (addresses .entry)) count address n) next ⌝ }
 {
     if reaches_word_end(address, n as u64) {
-        return Effect::Refuse(Refusal::StoreFault);
+        return Action::refuse(Refusal::StoreFault);
     }
     let end = from + n;
     match test_values(&tape[from..end], address) {
-        Tested::Refused(f) => Effect::Refuse(f),
+        Tested::Refused(f) => Action::refuse(f),
         Tested::Passes => {
             if cells::has_capacity(addresses, count, address, n) {
-                return Effect::LoadTape {
-                    from,
-                    count: n,
-                    address,
-                    next,
-                };
+                return Action::load_tape(from, n, address, next);
             }
-            Effect::Refuse(Refusal::NoCapacity)
+            Action::refuse(Refusal::NoCapacity)
         }
     }
 }
@@ -234,13 +221,13 @@ pub fn load_tape(
     addresses: &[u64],
     count: usize,
     next: u64,
-) -> Effect
+) -> Action
     requires { ⌜ Rising count (now addresses) ⌝ }
     requires { ⌜ used ≤ length (now tape) ⌝ }
-    ensures { λ r. ⌜ r ≡ loadsTape a b (now (tape .entry)) used address (hasCapacity (now (addresses .entry)) count address (tapeCount a b)) next ⌝ }
+    ensures { λ r. ⌜ meant r ≡ loadsTape a b (now (tape .entry)) used address (hasCapacity (now (addresses .entry)) count address (tapeCount a b)) next ⌝ }
 {
     if !is_on_tape(a, b, used) {
-        return Effect::Refuse(Refusal::TapeFault);
+        return Action::refuse(Refusal::TapeFault);
     }
     let from = tape_from(a, b, used);
     let n = tape_count(a, b);

@@ -1,8 +1,9 @@
-// Effects carried out. Buffers are written by the functions of `hardware` alone.
+// Actions carried out. Buffers are written by the functions of `hardware` alone.
 use crate::Finish;
 use crate::Stepped;
+use effects::Action;
 use effects::Counts;
-use effects::Effect;
+use effects::Kind;
 use effects::Mode;
 use rules::Answer;
 ghost use mathlib.Core.Path.{_≡_};
@@ -14,6 +15,7 @@ ghost use Rattle.rules.specs.Cells as Cells;
 ghost use Rattle.rules.specs.Step.{overlay};
 ghost use Rattle.rules.specs.Taint.{cleanMany};
 ghost use Rattle.hardware.specs.Buffers.{cellsOf, putMany, Ordered, Holding};
+ghost use Rattle.effects.specs.Actions.{meant};
 ghost use Rattle.effects.specs.Carrying.{part, callValues};
 ghost use Rattle.interpreter.specs.Cores.{coreOf};
 ghost use Rattle.interpreter.specs.Steps.{callAnswer, taintsAfter, coreAfter, Carriable, CarriedOut};
@@ -114,9 +116,9 @@ fn call_contract(
     Answer::Calling(c0, c1, c2, c3)
 }
 
-// Carries an effect out: registers and buffers are changed in place, the rest is handed back.
+// Carries an action out: registers and buffers are changed in place, the rest is handed back.
 pub(crate) fn carry_out(
-    effect: Effect,
+    action: Action,
     mode: Mode,
     registers: &mut [u64; 10],
     pc: u64,
@@ -129,42 +131,36 @@ pub(crate) fn carry_out(
     tape: &mut [u64],
     output: &mut [u64],
 ) -> Stepped
-    requires { ⌜ Carriable effect (coreOf mode (now registers) pc clk counts (now addresses) (now numbers) (now taints) (now tape) (now output)) ⌝ }
-    ensures { λ r. ⌜ CarriedOut «storage_addr» effect (coreOf mode (now (registers .entry)) pc clk counts (now (addresses .entry)) (now (numbers .entry)) (now (taints .entry)) (now (tape .entry)) (now (output .entry))) (r .finish) (coreAfter mode r (now (registers .exit)) (now (addresses .exit)) (now (numbers .exit)) (now (taints .exit)) (now (tape .exit)) (now (output .exit))) ⌝ }
+    requires { ⌜ Carriable (meant action) (coreOf mode (now registers) pc clk counts (now addresses) (now numbers) (now taints) (now tape) (now output)) ⌝ }
+    ensures { λ r. ⌜ CarriedOut «storage_addr» (meant action) (coreOf mode (now (registers .entry)) pc clk counts (now (addresses .entry)) (now (numbers .entry)) (now (taints .entry)) (now (tape .entry)) (now (output .entry))) (r .finish) (coreAfter mode r (now (registers .exit)) (now (addresses .exit)) (now (numbers .exit)) (now (taints .exit)) (now (tape .exit)) (now (output .exit))) ⌝ }
 {
     let next_clk = clk + 1;
     let register_taints = mode.register_taints;
-    match effect {
-        Effect::SetRegister {
-            register,
-            value,
-            taint,
-            next,
-        } => {
-            registers[register] = value;
+    let kind = action.kind;
+    let place = action.place;
+    let count = action.count;
+    let next = action.next;
+    match kind {
+        Kind::SetRegister => {
+            registers[place] = action.number;
             Stepped {
                 pc: next,
                 clk: next_clk,
                 counts,
-                register_taints: taints_after(mode, register, taint),
+                register_taints: taints_after(mode, place, action.flag),
                 finish: Finish::GoesOn,
             }
         }
-        Effect::Store {
-            address,
-            number,
-            taint,
-            next,
-        } => {
+        Kind::Store => {
             let cells = hardware::cells::store(
                 mode.tainted,
                 addresses,
                 numbers,
                 taints,
                 counts.cells,
-                address,
-                number,
-                taint,
+                action.address,
+                action.number,
+                action.flag,
             );
             Stepped {
                 pc: next,
@@ -178,19 +174,14 @@ pub(crate) fn carry_out(
                 finish: Finish::GoesOn,
             }
         }
-        Effect::Jump { next } => Stepped {
+        Kind::Jump => Stepped {
             pc: next,
             clk: next_clk,
             counts,
             register_taints,
             finish: Finish::GoesOn,
         },
-        Effect::LoadTape {
-            from,
-            count,
-            address,
-            next,
-        } => {
+        Kind::LoadTape => {
             let cells = load_tape(
                 mode.tainted,
                 addresses,
@@ -198,9 +189,9 @@ pub(crate) fn carry_out(
                 taints,
                 counts.cells,
                 tape,
-                from,
+                place,
                 count,
-                address,
+                action.address,
             );
             Stepped {
                 pc: next,
@@ -214,9 +205,9 @@ pub(crate) fn carry_out(
                 finish: Finish::GoesOn,
             }
         }
-        Effect::StoreTape { at, count, next } => {
-            append_numbers(tape, counts.tape, numbers, at, count);
-            append_numbers(output, counts.output, numbers, at, count);
+        Kind::StoreTape => {
+            append_numbers(tape, counts.tape, numbers, place, count);
+            append_numbers(output, counts.output, numbers, place, count);
             let tape_count = counts.tape + count;
             let output_count = counts.output + count;
             Stepped {
@@ -231,8 +222,15 @@ pub(crate) fn carry_out(
                 finish: Finish::GoesOn,
             }
         }
-        Effect::CallContract { at, delegate, next } => {
-            let answer = call_contract(storage_addr, numbers, at, delegate, tape, counts.tape);
+        Kind::CallContract => {
+            let answer = call_contract(
+                storage_addr,
+                numbers,
+                place,
+                action.flag,
+                tape,
+                counts.tape,
+            );
             let tape_count = counts.tape + 12;
             Stepped {
                 pc: next,
@@ -246,21 +244,21 @@ pub(crate) fn carry_out(
                 finish: Finish::Leaves(answer),
             }
         }
-        Effect::End { next } => Stepped {
+        Kind::End => Stepped {
             pc: next,
             clk: next_clk,
             counts,
             register_taints,
             finish: Finish::Leaves(Answer::Ended),
         },
-        Effect::Refuse(refusal) => Stepped {
+        Kind::Refuse(refusal) => Stepped {
             pc,
             clk,
             counts,
             register_taints,
             finish: Finish::Refuses(Answer::Refused(refusal)),
         },
-        Effect::Sink => Stepped {
+        Kind::Sink => Stepped {
             pc,
             clk,
             counts,

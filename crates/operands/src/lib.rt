@@ -1,6 +1,6 @@
 // What the operands of an instruction give, read from a fetched row, and the taints of registers.
 //
-// Internal, for the crates above: `opcodes::is_covered`, `values::{value, read_operands}`,
+// Internal, for the crates above: `values::{value, read_operands}`,
 // `taints::{register_taint, operand_taint, is_sink, with_taint}`.
 pub mod opcodes;
 pub mod taints;
@@ -14,7 +14,7 @@ pub enum Value {
     Refused(Refusal),
 }
 
-// What the three operands give: 0 where an opcode asks nothing.
+// What the three operands give.
 pub enum OperandsRead {
     Are { op0: u64, op1: u64, dst: u64 },
     Refused(Refusal),

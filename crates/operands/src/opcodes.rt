@@ -1,7 +1,7 @@
 // What an opcode asks of its operands, and which of them are sinks.
 use rules::OlaOpcode;
 ghost use mathlib.Core.Path.{_≡_};
-ghost use Rattle.rules.specs.Opcodes.{classOf, isCovered};
+ghost use Rattle.rules.specs.Opcodes.{classOf};
 ghost use Rattle.rules.specs.Operands.{wantsOf};
 ghost use Rattle.rules.specs.Taint.{sinksOf};
 ghost use Rattle.operands.specs.Meanings.{wantsMeant, sinksMeant};
@@ -27,20 +27,6 @@ pub struct Sinks {
     pub op1: bool,
     pub dst: bool,
     pub r9: bool,
-}
-
-// Is an opcode none of refusal 5?
-pub fn is_covered(opcode: OlaOpcode) -> bool
-    ensures { λ r. ⌜ r ≡ isCovered (classOf opcode) ⌝ }
-{
-    match opcode {
-        OlaOpcode::Poseidon
-        | OlaOpcode::Sload
-        | OlaOpcode::Sstore
-        | OlaOpcode::Sigcheck
-        | OlaOpcode::Event => false,
-        _ => true,
-    }
 }
 
 // What an opcode asks of each of its operands.

@@ -9,7 +9,7 @@ ghost use Rattle.rules.specs.Frames.{operandOf};
 ghost use Rattle.rules.specs.Opcodes.{classOf};
 ghost use Rattle.rules.specs.Taint.{registerTaint, operandTaint, operandSink};
 ghost use Rattle.rules.specs.Entry.{lowBits, wordOfBits};
-ghost use Rattle.program.specs.Rows.{instructionFrom};
+ghost use Rattle.program.specs.Rows.{fields, instructionFrom};
 ghost use Rattle.operands.specs.Meanings.{RegistersBelow};
 
 // The taint of a register.
@@ -31,16 +31,16 @@ pub fn operand_taint(taints: u64, kind: u64, register: usize) -> bool
 // Does a step stop at a sink right after its operands?
 pub fn is_sink(taints: u64, row: Row) -> bool
     requires { ⌜ RegistersBelow row ⌝ }
-    ensures { λ r. ⌜ ((ws : List ℕ) → r ≡ operandSink (lowBits 10 taints) (classOf (row .opcode)) (instructionFrom ws row)) ⌝ }
+    ensures { λ r. ⌜ ((ws : List ℕ) → r ≡ operandSink (lowBits 10 taints) (classOf (fields row .opcode)) (instructionFrom ws row)) ⌝ }
 {
     if taints == 0 {
         return false;
     }
-    let opcode = row.opcode;
+    let opcode = row.opcode();
     let sinks = opcodes::sinks_of(opcode);
-    let op0 = operand_taint(taints, row.kind0, row.register0);
-    let op1 = operand_taint(taints, row.kind1, row.register1);
-    let dst = operand_taint(taints, row.kind_dst, row.register_dst);
+    let op0 = operand_taint(taints, row.kind0(), row.register0());
+    let op1 = operand_taint(taints, row.kind1(), row.register1());
+    let dst = operand_taint(taints, row.kind_dst(), row.register_dst());
     let r9 = register_taint(taints, 9);
     (sinks.op0 & op0) | ((sinks.op1 & op1) | ((sinks.dst & dst) | (sinks.r9 & r9)))
 }

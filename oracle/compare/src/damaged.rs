@@ -80,7 +80,8 @@ fn compare_call(seed: u64, number: u64, counts: &mut Counts) -> Result<(), Strin
     };
     let called = call(&mut random, program, &start, run).map_err(|what| {
         format!(
-            "VIOLATION: {what}\nagain with: damaged --seed {seed:x} --only {number}\n{shape:?} {run:?} budget {budget}\nwords {words:x?}\ntext {:?}\nstart {start:x?}",
+            "VIOLATION: {what}\nagain with: damaged --seed {seed:x} --only {number}\n{} with budget {budget}\nwords {words:x?}\ntext {:?}\nstart {start:x?}",
+            function_name(shape, run),
             String::from_utf8_lossy(&text)
         )
     });
@@ -149,6 +150,17 @@ fn predicted_call(
     Ok((answer, predicted.reason))
 }
 
+fn function_name(shape: Shape, run: Run) -> &'static str {
+    match (shape, run) {
+        (Shape::Words, Run::Plain) => "ola_run_words",
+        (Shape::Words, Run::Tainted) => "ola_tainted_run_words",
+        (Shape::Text, Run::Plain) => "ola_run_text",
+        (Shape::Text, Run::Tainted) => "ola_tainted_run_text",
+        (Shape::BudgetText, Run::Plain) => "ola_run_budget_text",
+        (Shape::BudgetText, Run::Tainted) => "ola_tainted_run_budget_text",
+    }
+}
+
 /// What a call came to, as columns of a table.
 const ENDS: [&str; 5] = [
     "refusal 1",
@@ -201,11 +213,7 @@ impl Counts {
         for shape in SHAPES {
             for run in RUNS {
                 let counts = self.ends[shape as usize][run as usize];
-                row(
-                    &mut text,
-                    &format!("{shape:?}, {run:?}"),
-                    &counts.map(grouped),
-                );
+                row(&mut text, function_name(shape, run), &counts.map(grouped));
             }
         }
 

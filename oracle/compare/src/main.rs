@@ -85,7 +85,7 @@ fn compare(name: &str, arguments: &[String]) -> Result<(), String> {
     for part in wanted {
         let options = Options::read(arguments, part.count)?;
         eprintln!("{}: begins", part.name);
-        println!("\n## {}", part.name);
+        println!("\n### {}", part.name);
         (part.compare)(&options)?;
         eprintln!("{}: nothing differs", part.name);
     }

@@ -202,8 +202,12 @@ impl Sides {
         if let Some(what) = difference(&self.library, &lent) {
             return Err(format!("step by step and at once: {what}"));
         }
-        if stepper.state() != self.source.state() {
+        let source_end = self.source.state();
+        if stepper.state() != source_end {
             return Err("resume at once leaves another state than step by step".to_string());
+        }
+        if source_end.tape != self.library.tape[..source_end.tape.len()] {
+            return Err(format!("the whole tape: resume {:x?}", source_end.tape));
         }
         Ok(())
     }

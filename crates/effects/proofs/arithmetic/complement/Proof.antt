@@ -16,20 +16,34 @@ enum-known-x c = search needs
 enum-told : tie.Need-enum-told
 enum-told c = search needs
 
+refuse-requires : tie.Need-refuse-requires
+refuse-requires c κs = search needs
+
 returns : tie.Need-returns
 unfolding check
-returns c ws = rw (none (isElement (c .before .before .before .args .a)) (fieldComplement (c .before .before .before .args .a)) (sym (c .before .before .complement .ensures) ∙ c .enum-told .given .1))
+returns c ws = rw (none (isElement (c .before .before .before .before .args .a)) (fieldComplement (c .before .before .before .before .args .a)) (sym (c .before .before .before .complement .ensures) ∙ c .before .enum-told .given .1)) (c .refuse .ensures)
 
 op1-taint-requires : tie.Need-op1-taint-requires
 op1-taint-requires c κs = search needs
 
+set-register-requires : tie.Need-set-register-requires
+set-register-requires c κs = search needs
+
 returns-2 : tie.Need-returns-2
 unfolding check
 returns-2 c ws =
-    let e = element (isElement (c .before .before .before .before .before .args .a)) (fieldComplement (c .before .before .before .before .before .args .a)) (c .before .before .x .given .0 .0) (sym (c .before .before .before .before .complement .ensures) ∙ c .before .before .x .given .1) in
-    rw (e .0, ← e .1, ← c .op1-taint .ensures ws)
+    let e = element (isElement (c .before .before .before .before .before .before .args .a)) (fieldComplement (c .before .before .before .before .before .before .args .a)) (c .before .before .before .x .given .0 .0) (sym (c .before .before .before .before .before .complement .ensures) ∙ c .before .before .before .x .given .1) in
+    rw (e .0, ← e .1, ← c .before .op1-taint .ensures ws) (c .set-register .ensures)
 
 pub complement-spec : {M : Type 1} → statement M
 complement-spec =
     tie.close
-    (tie.spec complement-requires enum-known-x enum-told returns op1-taint-requires returns-2)
+    (tie.spec
+    complement-requires
+    enum-known-x
+    enum-told
+    refuse-requires
+    returns
+    op1-taint-requires
+    set-register-requires
+    returns-2)

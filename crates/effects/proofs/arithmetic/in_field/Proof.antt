@@ -9,15 +9,29 @@ enum-known-result c = search needs
 enum-told : tie.Need-enum-told
 enum-told c = search needs
 
+refuse-requires : tie.Need-refuse-requires
+refuse-requires c κs = search needs
+
 returns : tie.Need-returns
-returns c ws = rw (c .enum-told .given .1)
+returns c ws = rw (c .before .enum-told .given .1) (c .refuse .ensures)
 
 both-taint-requires : tie.Need-both-taint-requires
 both-taint-requires c κs = search needs
 
+set-register-requires : tie.Need-set-register-requires
+set-register-requires c κs = search needs
+
 returns-2 : tie.Need-returns-2
-returns-2 c ws = rw (c .before .before .result .given .1, ← c .both-taint .ensures ws)
+returns-2 c ws = rw (c .before .before .before .result .given .1, ← c .before .both-taint .ensures ws) (c .set-register .ensures)
 
 pub in-field-spec : {M : Type 1} → statement M
 in-field-spec =
-    tie.close (tie.spec enum-known-result enum-told returns both-taint-requires returns-2)
+    tie.close
+    (tie.spec
+    enum-known-result
+    enum-told
+    refuse-requires
+    returns
+    both-taint-requires
+    set-register-requires
+    returns-2)

@@ -9,33 +9,45 @@ use Rattle.effects.proofs.arithmetic.small.Tie as tie
 is-small-requires : tie.Need-is-small-requires
 is-small-requires c κs = search needs
 
+refuse-requires : tie.Need-refuse-requires
+refuse-requires c κs = search needs
+
 returns : tie.Need-returns
 unfolding check
-returns c ws = rw (sym (c .before .is-small .ensures) ∙ not-true _ (c .if1 .taken))
+returns c ws = rw (sym (c .before .before .is-small .ensures) ∙ not-true _ (c .before .if1 .taken)) (c .refuse .ensures)
 
 is-small-requires-2 : tie.Need-is-small-requires-2
 is-small-requires-2 c κs = search needs
 
+refuse-requires-2 : tie.Need-refuse-requires-2
+refuse-requires-2 c κs = search needs
+
 returns-2 : tie.Need-returns-2
 unfolding check
 returns-2 c ws =
-    rw (sym (c .before .before .before .is-small .ensures) ∙ not-false _ (c .before .before .if1 .left), sym (c .before .is-small2 .ensures) ∙ not-true _ (c .if2 .taken))
+    rw (sym (c .before .before .before .before .is-small .ensures) ∙ not-false _ (c .before .before .before .if1 .left), sym (c .before .before .is-small2 .ensures) ∙ not-true _ (c .before .if2 .taken)) (c .refuse2 .ensures)
 
 both-taint-requires : tie.Need-both-taint-requires
 both-taint-requires c κs = search needs
 
+set-register-requires : tie.Need-set-register-requires
+set-register-requires c κs = search needs
+
 returns-3 : tie.Need-returns-3
 unfolding check
 returns-3 c ws =
-    rw (sym (c .before .before .before .before .is-small .ensures) ∙ not-false _ (c .before .before .before .if1 .left), sym (c .before .before .is-small2 .ensures) ∙ not-false _ (c .before .if2 .left), ← c .both-taint .ensures ws)
+    rw (sym (c .before .before .before .before .before .is-small .ensures) ∙ not-false _ (c .before .before .before .before .if1 .left), sym (c .before .before .before .is-small2 .ensures) ∙ not-false _ (c .before .before .if2 .left), ← c .before .both-taint .ensures ws) (c .set-register .ensures)
 
 pub small-spec : {M : Type 1} → statement M
 small-spec =
     tie.close
     (tie.spec
     is-small-requires
+    refuse-requires
     returns
     is-small-requires-2
+    refuse-requires-2
     returns-2
     both-taint-requires
+    set-register-requires
     returns-3)

@@ -10,9 +10,12 @@ use Rattle.effects.proofs.calls.call.Tie as tie
 element-copy-out-frame : tie.Need-element-copy-out-frame
 element-copy-out-frame c = search needs
 
+refuse-requires : tie.Need-refuse-requires
+refuse-requires c κs = search needs
+
 returns : tie.Need-returns
 unfolding check
-returns c = rw (lt-leb 1 (getD (c .before .before .before .args .registers .now) 9 0) (omega arith))
+returns c = rw (lt-leb 1 (getD (c .before .before .before .before .args .registers .now) 9 0) (omega arith)) (c .refuse .ensures)
 
 sub-store-cell : tie.Need-sub-store-cell
 sub-store-cell c = search needs
@@ -27,4 +30,10 @@ returns-2 c = rw (le-leb 1 (getD (c .before .before .before .before .args .regis
 pub call-spec : {M : Type 1} → statement M
 call-spec =
     tie.close
-    (tie.spec element-copy-out-frame returns sub-store-cell store-cell-requires returns-2)
+    (tie.spec
+    element-copy-out-frame
+    refuse-requires
+    returns
+    sub-store-cell
+    store-cell-requires
+    returns-2)

@@ -9,8 +9,11 @@ enum-known-address c = search needs
 enum-told : tie.Need-enum-told
 enum-told c = search needs
 
+refuse-requires : tie.Need-refuse-requires
+refuse-requires c κs = search needs
+
 returns : tie.Need-returns
-returns c = rw (c .enum-told .given .1)
+returns c = rw (c .before .enum-told .given .1) (c .refuse .ensures)
 
 store-cell-requires : tie.Need-store-cell-requires
 store-cell-requires c κs = search needs
@@ -20,4 +23,11 @@ returns-2 c = rw (c .before .before .address .given .1) (c .store-cell .ensures)
 
 pub store-spec : {M : Type 1} → statement M
 store-spec =
-    tie.close (tie.spec enum-known-address enum-told returns store-cell-requires returns-2)
+    tie.close
+    (tie.spec
+    enum-known-address
+    enum-told
+    refuse-requires
+    returns
+    store-cell-requires
+    returns-2)

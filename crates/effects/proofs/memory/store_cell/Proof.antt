@@ -14,6 +14,9 @@ test-store-requires c κs = search needs
 enum-known-f : tie.Need-enum-known-f
 enum-known-f c = search needs
 
+refuse-requires : tie.Need-refuse-requires
+refuse-requires c κs = search needs
+
 enum-told : tie.Need-enum-told
 enum-told c = search needs
 
@@ -24,16 +27,22 @@ has-capacity-requires c κs =
     let k = passes-below (s .args .address) (s .args .number) (sym (c .before .before .test-store .ensures) ∙ c .enum-told .given .1) in
     (s .pre, omega arith)
 
+store-requires : tie.Need-store-requires
+store-requires c κs = search needs
+
 returns : tie.Need-returns
 unfolding check
-returns c = rw (sym (c .before .before .before .before .test-store .ensures) ∙ c .before .before .enum-told .given .1, sym (c .before .has-capacity .ensures) ∙ c .if1 .taken)
+returns c = rw (sym (c .before .before .before .before .before .test-store .ensures) ∙ c .before .before .before .enum-told .given .1, sym (c .before .before .has-capacity .ensures) ∙ c .before .if1 .taken) (c .store .ensures)
+
+refuse-requires-2 : tie.Need-refuse-requires-2
+refuse-requires-2 c κs = search needs
 
 returns-2 : tie.Need-returns-2
-returns-2 c = rw (sym (c .before .before .before .test-store .ensures) ∙ c .before .f .given .1)
+returns-2 c = rw (sym (c .before .before .before .before .test-store .ensures) ∙ c .before .before .f .given .1) (c .refuse .ensures)
 
 returns-3 : tie.Need-returns-3
 unfolding check
-returns-3 c = rw (sym (c .before .before .before .before .test-store .ensures) ∙ c .before .before .enum-told .given .1, sym (c .before .has-capacity .ensures) ∙ c .if1 .left)
+returns-3 c = rw (sym (c .before .before .before .before .before .test-store .ensures) ∙ c .before .before .before .enum-told .given .1, sym (c .before .before .has-capacity .ensures) ∙ c .before .if1 .left) (c .refuse2 .ensures)
 
 pub store-cell-spec : {M : Type 1} → statement M
 store-cell-spec =
@@ -41,8 +50,11 @@ store-cell-spec =
     (tie.spec
     test-store-requires
     enum-known-f
+    refuse-requires
     enum-told
     has-capacity-requires
+    store-requires
     returns
+    refuse-requires-2
     returns-2
     returns-3)

@@ -16,6 +16,9 @@ find-cells-requires c κs = search needs
 enum-known-f : tie.Need-enum-known-f
 enum-known-f c = search needs
 
+refuse-requires : tie.Need-refuse-requires
+refuse-requires c κs = search needs
+
 enum-known-at : tie.Need-enum-known-at
 enum-known-at c = search needs
 
@@ -28,27 +31,36 @@ is-part-tainted-requires c κs =
     let k = s .pre .1 .0 t in
     omega arith
 
+sink-requires : tie.Need-sink-requires
+sink-requires c κs = search needs
+
 returns : tie.Need-returns
 unfolding sinkWhere
-returns c = rw (sym (c .before .before .before .before .before .find-cells .ensures) ∙ c .before .before .before .at .given .1, sym (c .before .is-part-tainted .ensures) ∙ c .if1 .taken)
+returns c = rw (sym (c .before .before .before .before .before .before .find-cells .ensures) ∙ c .before .before .before .before .at .given .1, sym (c .before .before .is-part-tainted .ensures) ∙ c .before .if1 .taken) (c .sink .ensures)
 
 sub-if2 : tie.Need-sub-if2
 sub-if2 c = search needs
 
+refuse-requires-2 : tie.Need-refuse-requires-2
+refuse-requires-2 c κs = search needs
+
 returns-2 : tie.Need-returns-2
 unfolding sinkWhere check
 returns-2 c =
-    let s = c .before .before .before .before .before .before .before .before .before .before .args in
-    rw (sym (c .before .before .before .before .before .before .find-cells .ensures) ∙ c .before .before .before .before .at .given .1, sym (c .before .before .is-part-tainted .ensures) ∙ c .before .if1 .left, lt-leb (s .used + 12) (length (s .tape .now)) (omega arith))
+    let s = c .before .before .before .before .before .before .before .before .before .before .before .args in
+    rw (sym (c .before .before .before .before .before .before .before .find-cells .ensures) ∙ c .before .before .before .before .before .at .given .1, sym (c .before .before .before .is-part-tainted .ensures) ∙ c .before .before .if1 .left, lt-leb (s .used + 12) (length (s .tape .now)) (omega arith)) (c .refuse2 .ensures)
+
+call-contract-requires : tie.Need-call-contract-requires
+call-contract-requires c κs = search needs
 
 returns-3 : tie.Need-returns-3
-returns-3 c = rw (sym (c .before .before .before .find-cells .ensures) ∙ c .before .f .given .1)
+returns-3 c = rw (sym (c .before .before .before .before .find-cells .ensures) ∙ c .before .before .f .given .1) (c .refuse .ensures)
 
 returns-4 : tie.Need-returns-4
 unfolding sinkWhere check
 returns-4 c =
-    let s = c .before .before .before .before .before .before .before .before .before .before .args in
-    rw (sym (c .before .before .before .before .before .before .find-cells .ensures) ∙ c .before .before .before .before .at .given .1, sym (c .before .before .is-part-tainted .ensures) ∙ c .before .if1 .left, le-leb (s .used + 12) (length (s .tape .now)) (omega arith))
+    let s = c .before .before .before .before .before .before .before .before .before .before .before .args in
+    rw (sym (c .before .before .before .before .before .before .before .find-cells .ensures) ∙ c .before .before .before .before .before .at .given .1, sym (c .before .before .before .is-part-tainted .ensures) ∙ c .before .before .if1 .left, le-leb (s .used + 12) (length (s .tape .now)) (omega arith)) (c .call-contract .ensures)
 
 pub call-contract-spec : {M : Type 1} → statement M
 call-contract-spec =
@@ -56,10 +68,14 @@ call-contract-spec =
     (tie.spec
     find-cells-requires
     enum-known-f
+    refuse-requires
     enum-known-at
     is-part-tainted-requires
+    sink-requires
     returns
     sub-if2
+    refuse-requires-2
     returns-2
+    call-contract-requires
     returns-3
     returns-4)

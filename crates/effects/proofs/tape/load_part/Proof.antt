@@ -16,9 +16,12 @@ use Rattle.effects.proofs.tape.load_part.Tie as tie
 reaches-word-end-requires : tie.Need-reaches-word-end-requires
 reaches-word-end-requires c κs = search needs
 
+refuse-requires : tie.Need-refuse-requires
+refuse-requires c κs = search needs
+
 returns : tie.Need-returns
 unfolding check
-returns c = rw (sym (c .before .reaches-word-end .ensures) ∙ c .if1 .taken)
+returns c = rw (sym (c .before .before .reaches-word-end .ensures) ∙ c .before .if1 .taken) (c .refuse .ensures)
 
 add-end : tie.Need-add-end
 add-end c = search needs
@@ -45,6 +48,9 @@ test-values-requires c κs =
 enum-known-f : tie.Need-enum-known-f
 enum-known-f c = search needs
 
+refuse-requires-2 : tie.Need-refuse-requires-2
+refuse-requires-2 c κs = search needs
+
 enum-told : tie.Need-enum-told
 enum-told c = search needs
 
@@ -53,29 +59,36 @@ has-capacity-requires c κs =
     let s = c .before .before .before .before .before .before .before .before in
     (s .pre .0, leb-false wordEnd (s .args .address + s .args .n) (sym (c .before .before .before .before .before .reaches-word-end .ensures) ∙ c .before .before .before .before .if1 .left))
 
+load-tape-requires : tie.Need-load-tape-requires
+load-tape-requires c κs = search needs
+
 returns-2 : tie.Need-returns-2
 unfolding check
 returns-2 c =
-    let s = c .before .before .before .before .before .before .before .before .before .before .args in
-    rw (sym (c .before .before .before .before .before .before .before .reaches-word-end .ensures) ∙ c .before .before .before .before .before .before .if1 .left, ap (testsOf (s .address)) (sym (part-between (s .from) (s .n) (s .tape .now))) ∙ sym (c .before .before .before .before .test-values .ensures) ∙ c .before .before .enum-told .given .1, sym (c .before .has-capacity .ensures) ∙ c .if2 .taken)
+    let s = c .before .before .before .before .before .before .before .before .before .before .before .args in
+    rw (sym (c .before .before .before .before .before .before .before .before .reaches-word-end .ensures) ∙ c .before .before .before .before .before .before .before .if1 .left, ap (testsOf (s .address)) (sym (part-between (s .from) (s .n) (s .tape .now))) ∙ sym (c .before .before .before .before .before .test-values .ensures) ∙ c .before .before .before .enum-told .given .1, sym (c .before .before .has-capacity .ensures) ∙ c .before .if2 .taken) (c .load-tape .ensures)
+
+refuse-requires-3 : tie.Need-refuse-requires-3
+refuse-requires-3 c κs = search needs
 
 returns-3 : tie.Need-returns-3
 unfolding check
 returns-3 c =
-    let s = c .before .before .before .before .before .before .before .before .before .args in
-    rw (sym (c .before .before .before .before .before .before .reaches-word-end .ensures) ∙ c .before .before .before .before .before .if1 .left, ap (testsOf (s .address)) (sym (part-between (s .from) (s .n) (s .tape .now))) ∙ sym (c .before .before .before .test-values .ensures) ∙ c .before .f .given .1)
+    let s = c .before .before .before .before .before .before .before .before .before .before .args in
+    rw (sym (c .before .before .before .before .before .before .before .reaches-word-end .ensures) ∙ c .before .before .before .before .before .before .if1 .left, ap (testsOf (s .address)) (sym (part-between (s .from) (s .n) (s .tape .now))) ∙ sym (c .before .before .before .before .test-values .ensures) ∙ c .before .before .f .given .1) (c .refuse2 .ensures)
 
 returns-4 : tie.Need-returns-4
 unfolding check
 returns-4 c =
-    let s = c .before .before .before .before .before .before .before .before .before .before .args in
-    rw (sym (c .before .before .before .before .before .before .before .reaches-word-end .ensures) ∙ c .before .before .before .before .before .before .if1 .left, ap (testsOf (s .address)) (sym (part-between (s .from) (s .n) (s .tape .now))) ∙ sym (c .before .before .before .before .test-values .ensures) ∙ c .before .before .enum-told .given .1, sym (c .before .has-capacity .ensures) ∙ c .if2 .left)
+    let s = c .before .before .before .before .before .before .before .before .before .before .before .args in
+    rw (sym (c .before .before .before .before .before .before .before .before .reaches-word-end .ensures) ∙ c .before .before .before .before .before .before .before .if1 .left, ap (testsOf (s .address)) (sym (part-between (s .from) (s .n) (s .tape .now))) ∙ sym (c .before .before .before .before .before .test-values .ensures) ∙ c .before .before .before .enum-told .given .1, sym (c .before .before .has-capacity .ensures) ∙ c .before .if2 .left) (c .refuse3 .ensures)
 
 pub load-part-spec : {M : Type 1} → statement M
 load-part-spec =
     tie.close
     (tie.spec
     reaches-word-end-requires
+    refuse-requires
     returns
     add-end
     mul-test-values
@@ -84,8 +97,11 @@ load-part-spec =
     part-test-values-end
     test-values-requires
     enum-known-f
+    refuse-requires-2
     enum-told
     has-capacity-requires
+    load-tape-requires
     returns-2
+    refuse-requires-3
     returns-3
     returns-4)

@@ -11,9 +11,12 @@ use Rattle.effects.proofs.tape.load_tape.Tie as tie
 is-on-tape-requires : tie.Need-is-on-tape-requires
 is-on-tape-requires c κs = search needs
 
+refuse-requires : tie.Need-refuse-requires
+refuse-requires c κs = search needs
+
 returns : tie.Need-returns
 unfolding check
-returns c = rw (sym (c .before .is-on-tape .ensures) ∙ not-true _ (c .if1 .taken))
+returns c = rw (sym (c .before .before .is-on-tape .ensures) ∙ not-true _ (c .before .if1 .taken)) (c .refuse .ensures)
 
 tape-from-requires : tie.Need-tape-from-requires
 tape-from-requires c κs = sym (c .before .is-on-tape .ensures) ∙ not-false _ (c .if1 .left)
@@ -39,6 +42,7 @@ load-tape-spec =
     tie.close
     (tie.spec
     is-on-tape-requires
+    refuse-requires
     returns
     tape-from-requires
     tape-count-requires

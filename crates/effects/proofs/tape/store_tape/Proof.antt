@@ -16,6 +16,9 @@ find-cells-requires c κs = search needs
 enum-known-f : tie.Need-enum-known-f
 enum-known-f c = search needs
 
+refuse-requires : tie.Need-refuse-requires
+refuse-requires c κs = search needs
+
 enum-known-at : tie.Need-enum-known-at
 enum-known-at c = search needs
 
@@ -28,36 +31,48 @@ is-part-tainted-requires c κs =
     let k = s .pre .1 .0 t in
     omega arith
 
+sink-requires : tie.Need-sink-requires
+sink-requires c κs = search needs
+
 returns : tie.Need-returns
 unfolding sinkWhere
-returns c = rw (sym (c .before .before .before .before .before .find-cells .ensures) ∙ c .before .before .before .at .given .1, sym (c .before .is-part-tainted .ensures) ∙ c .if1 .taken)
+returns c = rw (sym (c .before .before .before .before .before .before .find-cells .ensures) ∙ c .before .before .before .before .at .given .1, sym (c .before .before .is-part-tainted .ensures) ∙ c .before .if1 .taken) (c .sink .ensures)
 
 sub-if2 : tie.Need-sub-if2
 sub-if2 c = search needs
 
+refuse-requires-2 : tie.Need-refuse-requires-2
+refuse-requires-2 c κs = search needs
+
 returns-2 : tie.Need-returns-2
 unfolding sinkWhere check
 returns-2 c =
-    let s = c .before .before .before .before .before .before .before .before .before .before .before .args in
-    rw (sym (c .before .before .before .before .before .before .find-cells .ensures) ∙ c .before .before .before .before .at .given .1, sym (c .before .before .is-part-tainted .ensures) ∙ c .before .if1 .left, lt-leb (s .used + s .n) (length (s .tape .now)) (omega arith))
+    let s = c .before .before .before .before .before .before .before .before .before .before .before .before .args in
+    rw (sym (c .before .before .before .before .before .before .before .find-cells .ensures) ∙ c .before .before .before .before .before .at .given .1, sym (c .before .before .before .is-part-tainted .ensures) ∙ c .before .before .if1 .left, lt-leb (s .used + s .n) (length (s .tape .now)) (omega arith)) (c .refuse2 .ensures)
 
 sub-if3 : tie.Need-sub-if3
 sub-if3 c = search needs
 
+refuse-requires-3 : tie.Need-refuse-requires-3
+refuse-requires-3 c κs = search needs
+
 returns-3 : tie.Need-returns-3
 unfolding sinkWhere check
 returns-3 c =
-    let s = c .before .before .before .before .before .before .before .before .before .before .before .before .args in
-    rw (sym (c .before .before .before .before .before .before .before .find-cells .ensures) ∙ c .before .before .before .before .before .at .given .1, sym (c .before .before .before .is-part-tainted .ensures) ∙ c .before .before .if1 .left, le-leb (s .used + s .n) (length (s .tape .now)) (omega arith), lt-leb (s .shown + s .n) (length (s .output .now)) (omega arith))
+    let s = c .before .before .before .before .before .before .before .before .before .before .before .before .before .args in
+    rw (sym (c .before .before .before .before .before .before .before .before .find-cells .ensures) ∙ c .before .before .before .before .before .before .at .given .1, sym (c .before .before .before .before .is-part-tainted .ensures) ∙ c .before .before .before .if1 .left, le-leb (s .used + s .n) (length (s .tape .now)) (omega arith), lt-leb (s .shown + s .n) (length (s .output .now)) (omega arith)) (c .refuse3 .ensures)
+
+store-tape-requires : tie.Need-store-tape-requires
+store-tape-requires c κs = search needs
 
 returns-4 : tie.Need-returns-4
-returns-4 c = rw (sym (c .before .before .before .find-cells .ensures) ∙ c .before .f .given .1)
+returns-4 c = rw (sym (c .before .before .before .before .find-cells .ensures) ∙ c .before .before .f .given .1) (c .refuse .ensures)
 
 returns-5 : tie.Need-returns-5
 unfolding sinkWhere check
 returns-5 c =
-    let s = c .before .before .before .before .before .before .before .before .before .before .before .before .args in
-    rw (sym (c .before .before .before .before .before .before .before .find-cells .ensures) ∙ c .before .before .before .before .before .at .given .1, sym (c .before .before .before .is-part-tainted .ensures) ∙ c .before .before .if1 .left, le-leb (s .used + s .n) (length (s .tape .now)) (omega arith), le-leb (s .shown + s .n) (length (s .output .now)) (omega arith))
+    let s = c .before .before .before .before .before .before .before .before .before .before .before .before .before .args in
+    rw (sym (c .before .before .before .before .before .before .before .before .find-cells .ensures) ∙ c .before .before .before .before .before .before .at .given .1, sym (c .before .before .before .before .is-part-tainted .ensures) ∙ c .before .before .before .if1 .left, le-leb (s .used + s .n) (length (s .tape .now)) (omega arith), le-leb (s .shown + s .n) (length (s .output .now)) (omega arith)) (c .store-tape .ensures)
 
 pub store-tape-spec : {M : Type 1} → statement M
 store-tape-spec =
@@ -65,12 +80,17 @@ store-tape-spec =
     (tie.spec
     find-cells-requires
     enum-known-f
+    refuse-requires
     enum-known-at
     is-part-tainted-requires
+    sink-requires
     returns
     sub-if2
+    refuse-requires-2
     returns-2
     sub-if3
+    refuse-requires-3
     returns-3
+    store-tape-requires
     returns-4
     returns-5)

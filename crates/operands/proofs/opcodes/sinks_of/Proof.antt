@@ -5,7 +5,7 @@ use borrow.Author.Needs.{needs}
 use Rattle.rules.specs.declared.OlaOpcode.the-variants as O
 use Rattle.rules.specs.Opcodes.{classOf}
 use Rattle.rules.specs.Taint.{sinksOf}
-use Rattle.operands.proofs.ByOpcode.{alike}
+use Rattle.program.proofs.ByOpcode.{alike}
 use Rattle.operands.proofs.opcodes.sinks_of.Statement.{statement}
 use Rattle.operands.proofs.opcodes.sinks_of.Tie as tie
 

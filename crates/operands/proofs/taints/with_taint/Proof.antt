@@ -1,7 +1,8 @@
 -- `operands::taints::with_taint` meets its contract: the old bit goes, the new one comes.
 use borrow.Author.Needs.{needs}
 use native.Mathlib.Omega.{arith}
-use Rattle.operands.proofs.TaintBits.{taints-below, byte-below, shifted-below, old-within, replaced-word}
+use Rattle.program.proofs.Bytes.{byte-below}
+use Rattle.operands.proofs.TaintBits.{taints-below, shifted-below, old-within, replaced-word}
 use Rattle.operands.proofs.taints.with_taint.Statement.{statement}
 use Rattle.operands.proofs.taints.with_taint.Tie as tie
 
