@@ -1,5 +1,5 @@
 -- Cells in buffers, in the words of the contracts: what is found, where a span stands, what has capacity, what is read and what is stored.
-use Prim.Native.Nat.{ℕ, suc, _+_, _-_, _≤_, _<_}
+use Prim.Native.Nat.{ℕ, zero, suc, _+_, _-_, _≤_, _<_}
 use mathlib.Core.Path.{_≡_, refl, sym, ap, subst, _∙_}
 use mathlib.Core.Bool.{Bool, true, false}
 use mathlib.Core.List.{List}
@@ -65,6 +65,10 @@ module _ (n : ℕ) (xs : List ℕ) (o : Rising n xs) (a i : ℕ) (e : i ≡ rank
       let k : i + (m - 1) < n = subst (λ (k : ℕ). i + (m - 1) < k) used (f .0) in
       (k, sym (getD-take n xs (i + (m - 1)) 0 k) ∙ f .1)
 
+  pub span-ends : (m : ℕ) → hasAll (take n xs) a m ≡ true → i + m ≤ n
+  span-ends zero h = let k : i ≤ n = rank-used in omega arith
+  span-ends (suc m) h = let k : i + (suc m - 1) < n = last-of (suc m) (omega arith) h .0 in omega arith
+
   pub span-short : (m : ℕ) → (m ≡ 0 → ⊥) → n - i < m → Span.Absent ≡ spanOf (take n xs) a m
   span-short m z l = absent-span m (λ h. let k : i + (m - 1) < n = last-of m (omega arith) h .0 in omega arith)
 
@@ -78,6 +82,14 @@ module _ (n : ℕ) (xs : List ℕ) (o : Rising n xs) (a i : ℕ) (e : i ≡ rank
       let u : length (take n xs) ≡ n = used in
       rw (subst (λ (m : ℕ). hasAll (take n xs) a m ≡ true) s (last-there (take n xs) a (m - 1) (i + (m - 1)) (o .rises) (omega arith) (omega arith) (getD-take n xs (i + (m - 1)) 0 k ∙ g)))
       (ap Span.At e)
+
+-- what it says of a span that it is found
+pub span-at : (l : List ℕ) (a n i : ℕ) → spanOf l a n ≡ Span.At i → (hasAll l a n ≡ true) × (i ≡ rank l a)
+span-at l a n i e = go (hasAll l a n) refl e
+  where
+    go : (t : Bool) → hasAll l a n ≡ t → choose t (Span.At (rank l a)) Span.Absent ≡ Span.At i → (hasAll l a n ≡ true) × (i ≡ rank l a)
+    go true h e = (h, cc)
+    go false h e = let z : _≡_ {A = ℕ} 0 1 = cc in absurd (omega arith)
 
 pub place-below : (n : ℕ) (xs : List ℕ) → Rising n xs → (a i : ℕ) → foundOf (take n xs) a ≡ Found.At i → i < n
 place-below n xs o a i f = subst (λ (k : ℕ). i < k) (length-take-le n xs (o .within)) (found-below (take n xs) a i (o .rises) f)

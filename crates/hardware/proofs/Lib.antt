@@ -1,9 +1,11 @@
 -- What the functions' proofs have in common, and for the crates above the laws of cells in buffers.
 pub mod RankLaws
+pub mod QuarterLaws
 pub mod SpanLaws
 pub mod StoreLaws
 pub mod PlaceLaws
 pub mod WriteLaws
 pub mod BufferLaws
+pub mod OverwriteLaws
 pub mod HoldingLaws
 pub mod Storing

@@ -1,6 +1,6 @@
 -- Among rising addresses: whether an address is there, and how many lie below it.
 use Prim.Native.Nat.{ℕ, zero, suc, _+_, _≤_, _<_}
-use mathlib.Core.Path.{_≡_, refl, ap, _∙_}
+use mathlib.Core.Path.{_≡_, refl, sym, ap, _∙_}
 use mathlib.Core.Bool.{Bool, true, false, _||_}
 use mathlib.Core.List.{List, [], _∷_}
 use native.Mathlib.Omega.{arith}
@@ -80,6 +80,23 @@ rank-at (b ∷ l) a h = go (rank-at l a) (ltb b a) refl h
         → a ≤ getD (b ∷ l) (choose t (suc (rank l a)) zero) 0
     go k true e h = k (omega arith)
     go k false e h = ltb-false b a e
+
+-- an address stands below another where its place lies before the other's rank
+pub below-rank : (l : List ℕ) (a i : ℕ) → risingFrom 0 l ≡ true → i < length l → ltb (getD l i 0) a ≡ ltb i (rank l a)
+below-rank l a i r h = go (ltb (getD l i 0) a) refl
+  where
+    go : (t : Bool) → ltb (getD l i 0) a ≡ t → t ≡ ltb i (rank l a)
+    go true e = sym (lt-ltb i (rank l a) (rank-gt 0 l a i r h (ltb-true (getD l i 0) a e)))
+    go false e = sym (le-ltb i (rank l a) (rank-le l a i (ltb-false (getD l i 0) a e)))
+
+-- an address that stands at a place has this rank
+pub rank-here : (l : List ℕ) (a i : ℕ) → risingFrom 0 l ≡ true → i < length l → getD l i 0 ≡ a → rank l a ≡ i
+rank-here l a zero r h e = let k : rank l a ≤ 0 = rank-le l a 0 (omega arith) in omega arith
+rank-here l a (suc i) r h e =
+    let k : rank l a ≤ suc i = rank-le l a (suc i) (omega arith) in
+    let q : getD l i 0 + suc i ≤ getD l (suc i) 0 + i = rising-apart 0 l i (suc i) r (omega arith) h in
+    let m : i < rank l a = rank-gt 0 l a i r (omega arith) (omega arith) in
+    omega arith
 
 -- Being there
 

@@ -1,7 +1,8 @@
 -- Where a value goes among the used elements of a buffer.
 use Prim.Native.Nat.{ℕ, zero, suc, _≤_, _<_}
-use mathlib.Core.List.{List, [], _∷_}
-use lib.ListN.{set}
+use mathlib.Core.List.{List, [], _∷_, _++_}
+use lib.ListN.{set, take, drop}
+use Rattle.rules.specs.Step.{overlay}
 use Rattle.hardware.specs.declared.cells.Found.{Found}
 use Rattle.hardware.specs.declared.cells.Found.the-variants.{At, Absent}
 
@@ -20,6 +21,15 @@ keepOf (Absent i) v l = insertAt i v l
 abbrev pub growOf : Found → ℕ → List ℕ → List ℕ
 growOf (At i) a l = l
 growOf (Absent i) a l = insertAt i a l
+
+-- values in the place of those from a place on
+abbrev pub overwritten : ℕ → List ℕ → List ℕ → List ℕ
+overwritten i vs l = take i l ++ overlay vs (drop i l)
+
+-- as many zeros
+abbrev pub zeros : List ℕ → List ℕ
+zeros [] = []
+zeros (x ∷ l) = 0 ∷ zeros l
 
 -- a place among the first n of k elements, with capacity for one more where it is new
 abbrev pub Within : Found → ℕ → ℕ → Type 0

@@ -1,9 +1,10 @@
 // Memory cells: a map from address to number, and in a tainted run to a taint, in buffers whose first `count` elements are used; the
 // addresses are strictly rising.
+use crate::tape;
 ghost use mathlib.Core.Path.{_≡_};
 ghost use mathlib.Core.Bool.{true};
 ghost use Prim.Native.Nat.{ℕ, _+_, _≤_, _<_};
-ghost use lib.Dec.{leb};
+ghost use lib.Dec.{leb, ltb};
 ghost use lib.ListN.{length, take, drop};
 ghost use Rattle.rules.specs.Numbers.{choose, bit, heapEnd, wordEnd};
 ghost use Rattle.rules.specs.Cells as Cells;
@@ -12,7 +13,7 @@ ghost use Rattle.rules.specs.Step.{overlay};
 ghost use Rattle.rules.specs.Taint.{cleanMany};
 ghost use Rattle.rules.specs.Entry.{risingFrom};
 ghost use Rattle.hardware.specs.Buffers.{rank, foundOf, spanOf, missing, anyTaint, cellsOf, cellOf, putMany, Rising, Ordered, Holding};
-ghost use Rattle.hardware.specs.Places.{insertAt, keepOf, growOf, Within};
+ghost use Rattle.hardware.specs.Places.{insertAt, keepOf, growOf, overwritten, zeros, Within};
 
 // Where an address is, or where it would go.
 pub enum Found {
@@ -37,22 +38,59 @@ pub enum Span {
     Absent,
 }
 
-// How many of the rising addresses lie below an address, by halving.
-fn rank_of(used: &[u64], address: u64) -> usize
+// Does the address at a place lie below another? Behind the last there is none.
+fn is_below(used: &[u64], at: usize, address: u64) -> bool
+    requires { ⌜ risingFrom 0 (now used) ≡ true ⌝ }
+    ensures { λ r. ⌜ r ≡ ltb at (rank (now (used .entry)) address) ⌝ }
+{
+    if at < used.len() {
+        return used[at] < address;
+    }
+    false
+}
+
+// How many of the rising addresses lie below an address. Three comparisons, added up, tell its quarter: a branch on one of them could not
+// be predicted.
+fn rank_by_quarters(used: &[u64], address: u64) -> usize
     requires { ⌜ risingFrom 0 (now used) ≡ true ⌝ }
     ensures { λ r. ⌜ r ≡ rank (now (used .entry)) address ⌝ }
 {
     let mut low = 0;
-    let mut high = used.len();
-    while low < high {
-        let middle = low + (high - low) / 2;
-        if used[middle] < address {
-            low = middle + 1;
-        } else {
-            high = middle;
-        }
+    let mut left = used.len();
+    while 0 < left {
+        let quarter = left / 4;
+        let first = low + quarter;
+        let second = first + 1 + quarter;
+        let third = second + 1 + quarter;
+        let below = is_below(used, first, address) as usize
+            + is_below(used, second, address) as usize
+            + is_below(used, third, address) as usize;
+        low += below * (quarter + 1);
+        left = quarter;
     }
     low
+}
+
+// The same. Where no address is missing between the first and this one, no search is needed.
+fn rank_of(used: &[u64], address: u64) -> usize
+    requires { ⌜ risingFrom 0 (now used) ≡ true ⌝ }
+    ensures { λ r. ⌜ r ≡ rank (now (used .entry)) address ⌝ }
+{
+    if used.len() == 0 {
+        return 0;
+    }
+    let first = used[0];
+    if address <= first {
+        return 0;
+    }
+    let ahead = address - first;
+    if ahead < used.len() as u64 {
+        let at = ahead as usize;
+        if used[at] == address {
+            return at;
+        }
+    }
+    rank_by_quarters(used, address)
 }
 
 // Where an address is.
@@ -214,8 +252,33 @@ pub fn store(
     grow(addresses, count, found, address)
 }
 
-// Stores values, untainted, to the cells from an address on; how many cells are used afterwards.
-pub fn store_many(
+// Clears the taints of a part.
+fn clear(taints: &mut [u64])
+    ensures { λ _. ⌜ now (taints .exit) ≡ zeros (now (taints .entry)) ⌝ }
+{
+    let mut i = 0;
+    while i < taints.len() {
+        taints[i] = 0;
+        i += 1;
+    }
+}
+
+// Values in the place of the numbers from a place on, untainted in a tainted run.
+fn overwrite(tainted: bool, numbers: &mut [u64], taints: &mut [u64], at: usize, values: &[u64])
+    requires { ⌜ at + length (now values) ≤ length (now numbers) ⌝ }
+    requires { ⌜ (tainted ≡ true → length (now taints) ≡ length (now numbers)) ⌝ }
+    ensures { λ _. ⌜ now (numbers .exit) ≡ overwritten at (now (values .entry)) (now (numbers .entry)) ⌝ }
+    ensures { λ _. ⌜ now (taints .exit) ≡ choose tainted (overwritten at (zeros (now (values .entry))) (now (taints .entry))) (now (taints .entry)) ⌝ }
+{
+    let end = at + values.len();
+    tape::write_values(&mut numbers[at..end], values);
+    if tainted {
+        clear(&mut taints[at..end]);
+    }
+}
+
+// Stores values, untainted, one by one to the cells from an address on; how many cells are used afterwards.
+fn store_each(
     tainted: bool,
     addresses: &mut [u64],
     numbers: &mut [u64],
@@ -245,4 +308,28 @@ pub fn store_many(
         stored += 1;
     }
     used
+}
+
+// The same. Where all cells are present, none has to be moved or searched for.
+pub fn store_many(
+    tainted: bool,
+    addresses: &mut [u64],
+    numbers: &mut [u64],
+    taints: &mut [u64],
+    count: usize,
+    start: u64,
+    values: &[u64],
+) -> usize
+    requires { ⌜ Ordered tainted count (now addresses) (now numbers) (now taints) ⌝ }
+    requires { ⌜ (0 < length (now values) → start + length (now values) ≤ heapEnd) ⌝ }
+    requires { ⌜ Cells.count (putMany (cellsOf count (now addresses) (now numbers)) start (now values)) ≤ length (now addresses) ⌝ }
+    ensures { λ r. ⌜ Holding tainted (putMany (cellsOf count (now (addresses .entry)) (now (numbers .entry))) start (now (values .entry))) (cleanMany (Cells.cells ℕ) (cellsOf count (now (addresses .entry)) (now (taints .entry))) start (now (values .entry))) r (now (addresses .entry)) (now (numbers .entry)) (now (taints .entry)) (now (addresses .exit)) (now (numbers .exit)) (now (taints .exit)) ⌝ }
+{
+    match find_span(addresses, count, start, values.len() as u64) {
+        Span::At(at) => {
+            overwrite(tainted, numbers, taints, at, values);
+            count
+        }
+        Span::Absent => store_each(tainted, addresses, numbers, taints, count, start, values),
+    }
 }

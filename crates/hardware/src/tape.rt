@@ -1,10 +1,10 @@
-// The tape's writer.
+// The writer of values.
 ghost use mathlib.Core.Path.{_≡_};
 ghost use Prim.Native.Nat.{_≤_};
 ghost use lib.ListN.{length};
 ghost use Rattle.rules.specs.Step.{overlay};
 
-// Writes values at the front of a free part, which a caller lends from the count of a tape or output on.
+// Writes values at the front of a part that a caller lends: what is free of a tape or output, or numbers of cells.
 pub fn write_values(free: &mut [u64], values: &[u64])
     requires { ⌜ length (now values) ≤ length (now free) ⌝ }
     ensures { λ _. ⌜ now (free .exit) ≡ overlay (now (values .entry)) (now (free .entry)) ⌝ }

@@ -1,57 +1,50 @@
--- `hardware::cells::rank_of` meets its contract. The loop's invariant: the rank lies between low and high.
-use Prim.Native.Nat.{_+_, _-_, _/_, _≤_, zero-le}
-use native.Mathlib.Nat.{le-refl}
+-- `hardware::cells::rank_of` meets its contract: an address that stands at a place has this rank.
+use mathlib.Core.Path.{sym}
 use native.Mathlib.Omega.{arith}
-use lib.ListN.{length}
-use Rattle.hardware.specs.Buffers.{rank}
-use Rattle.hardware.proofs.RankLaws.{rank-length, rank-le, rank-gt}
+use borrow.Author.Needs.{needs}
+use Rattle.hardware.proofs.RankLaws.{rank-length, rank-le, rank-here}
 use Rattle.hardware.proofs.cells.rank_of.Statement.{statement}
 use Rattle.hardware.proofs.cells.rank_of.Tie as tie
 
-abbrev Inv-loop : tie.InvT-loop
-Inv-loop used address low₀ high₀ low high = (low ≤ rank used address) × (rank used address ≤ high) × (high ≤ length used)
+returns : tie.Need-returns
+returns c = let a = c .before .before .args in omega (arith, rank-length (a .used .now) (a .address))
 
-abbrev μ-loop : tie.MeasureT-loop
-μ-loop used address low₀ high₀ low high = high - low
+shared-slice-read-first : tie.Need-shared-slice-read-first
+shared-slice-read-first c = search needs
 
-loop-holds : tie.Need-loop-holds Inv-loop μ-loop
-loop-holds c = (zero-le, rank-length (c .args .used .now) (c .args .address), le-refl _)
+returns-2 : tie.Need-returns-2
+returns-2 c = let a = c .before .before .before .before .args in omega (arith, rank-le (a .used .now) (a .address) 0 (c .if2 .taken))
 
-sub-middle : tie.Need-sub-middle Inv-loop μ-loop
-sub-middle c = omega arith
+sub-ahead : tie.Need-sub-ahead
+sub-ahead c = search needs
 
-add-middle : tie.Need-add-middle Inv-loop μ-loop
-add-middle c = omega arith
+mul-if4 : tie.Need-mul-if4
+mul-if4 c = search needs
 
-mul-if1 : tie.Need-mul-if1 Inv-loop μ-loop
-mul-if1 c = omega arith
+shared-slice-read-if4 : tie.Need-shared-slice-read-if4
+shared-slice-read-if4 c = search needs
 
-shared-slice-read-if1 : tie.Need-shared-slice-read-if1 Inv-loop μ-loop
-shared-slice-read-if1 c = omega arith
+returns-3 : tie.Need-returns-3
+returns-3 c =
+    let s = c .before .before .before .before .before .before .before in
+    sym (rank-here (s .args .used .now) (s .args .address) _ (s .pre) (c .before .before .if3 .taken) (c .if4 .taken))
 
-add-low : tie.Need-add-low Inv-loop μ-loop
-add-low c = omega arith
+rank-by-quarters-requires : tie.Need-rank-by-quarters-requires
+rank-by-quarters-requires c κs = search needs
 
-loop-less : tie.Need-loop-less Inv-loop μ-loop
-loop-less c = omega arith
-
-loop-again : tie.Need-loop-again Inv-loop μ-loop
-loop-again c =
-    let s = c .before .before .before .before in
-    let l = c .before .before .before .loop in
-    omega (arith, rank-gt 0 (s .args .used .now) (s .args .address) (l .low + (l .high - l .low) / 2) (s .pre) (omega arith) (c .if1 .taken))
-
-loop-less-2 : tie.Need-loop-less-2 Inv-loop μ-loop
-loop-less-2 c = omega arith
-
-loop-again-2 : tie.Need-loop-again-2 Inv-loop μ-loop
-loop-again-2 c =
-    let s = c .before .before .before .before .args in
-    let l = c .before .before .before .loop in
-    omega (arith, rank-le (s .used .now) (s .address) (l .low + (l .high - l .low) / 2) (c .if1 .left))
-
-returns : tie.Need-returns Inv-loop μ-loop
-returns c = omega arith
+returns-4 : tie.Need-returns-4
+returns-4 c = search needs
 
 pub rank-of-spec : {M : Type 1} → statement M
-rank-of-spec = tie.close (tie.spec Inv-loop μ-loop loop-holds sub-middle add-middle mul-if1 shared-slice-read-if1 add-low loop-less loop-again loop-less-2 loop-again-2 returns)
+rank-of-spec =
+    tie.close
+    (tie.spec
+    returns
+    shared-slice-read-first
+    returns-2
+    sub-ahead
+    mul-if4
+    shared-slice-read-if4
+    returns-3
+    rank-by-quarters-requires
+    returns-4)

@@ -1,88 +1,81 @@
--- `hardware::cells::store_many` meets its contract. The loop's invariant: storing what is left, from the buffers as they are, is the whole store.
-use Prim.Native.Nat.{ℕ, _+_, _-_, _≤_}
+-- `hardware::cells::store_many` meets its contract: where all cells are present only their contents change, else they are stored one by one.
+use mathlib.Core.Path.{sym, _∙_}
 use native.Mathlib.Omega.{arith}
-use lib.ListN.{length, getD}
-use Rattle.rules.specs.Numbers.{heapEnd}
-use Rattle.rules.specs.Cells.{Cells, put, count}
-use Rattle.hardware.specs.Buffers.{cellsOf}
-use Rattle.hardware.proofs.Storing.{Storing, storing-start, storing-end, storing-fits, storing-next}
+use lib.ListN.{length}
+use borrow.Author.Needs.{needs}
+use Rattle.rules.specs.Numbers.{wordEnd}
+use Rattle.hardware.proofs.BufferLaws.{span-at, span-ends}
+use Rattle.hardware.proofs.OverwriteLaws.{within-words, overwritten-holds}
 use Rattle.hardware.proofs.cells.store_many.Statement.{statement}
 use Rattle.hardware.proofs.cells.store_many.Tie as tie
 
-abbrev Inv-loop : tie.InvT-loop
-Inv-loop tainted addresses₀ numbers₀ taints₀ count start values used₀ stored₀ addresses numbers taints used stored =
-    Storing tainted addresses₀ numbers₀ taints₀ count start values addresses numbers taints used stored
+find-span-requires : tie.Need-find-span-requires
+unfolding wordEnd
+find-span-requires c κs =
+    let s = c .before .before .before .before .before in
+    (s .pre .0 .addresses, within-words (s .args .start) (length (s .args .values .now)) (omega arith) (s .pre .1 .0))
 
-abbrev μ-loop : tie.MeasureT-loop
-μ-loop tainted addresses₀ numbers₀ taints₀ count start values used₀ stored₀ addresses numbers taints used stored = length values - stored
+enum-known-at : tie.Need-enum-known-at
+enum-known-at c = search needs
 
-loop-holds : tie.Need-loop-holds Inv-loop μ-loop
-loop-holds c =
-    let s = c .before .before .before .before in
+overwrite-requires : tie.Need-overwrite-requires
+overwrite-requires c κs =
+    let s = c .before .before .before .before .before .before .before .before .before .before .before in
     let a = s .args in
-    storing-start (a .tainted) (a .addresses .now) (a .numbers .now) (a .taints .now) (a .count) (a .start) (a .values .now) (s .pre .0)
+    let o = s .pre .0 in
+    let f = span-at _ (a .start) (length (a .values .now)) _ (sym (c .before .before .before .before .before .find-span .ensures) ∙ c .before .before .before .at .given .1) in
+    let w = span-ends (a .count) (a .addresses .now) (o .addresses) (a .start) _ (f .1) (length (a .values .now)) (f .0) in
+    (omega (arith, w, o .addresses .within, o .level), λ t. o .taintLevel t ∙ sym (o .level))
 
-add-store : tie.Need-add-store Inv-loop μ-loop
-unfolding heapEnd
-add-store c =
-    let s = c .before .before .before .before .before .before .before .before .before in
-    let h : s .args .start + length (s .args .values .now) ≤ heapEnd = s .pre .1 .0 (omega arith) in
-    omega arith
+enum-told : tie.Need-enum-told
+enum-told c = search needs
 
-mul-store : tie.Need-mul-store Inv-loop μ-loop
-mul-store c = omega arith
+store-each-requires : tie.Need-store-each-requires
+store-each-requires c κs = search needs
 
-shared-slice-read-store : tie.Need-shared-slice-read-store Inv-loop μ-loop
-shared-slice-read-store c = omega arith
+same-length : tie.Need-same-length
+same-length c = search needs
 
--- the next value
-module _ (c : tie.In-loop Inv-loop μ-loop) where
-  abbrev entry : tie.Start Inv-loop μ-loop
-  entry = c .before .before .before .before .before .before
+same-length-2 : tie.Need-same-length-2
+same-length-2 c = search needs
 
-  abbrev next : Cells ℕ
-  next =
-      let l = c .before .loop in
-      put (cellsOf (l .used) (l .addresses) (l .numbers)) (entry .args .start + l .stored) (getD (entry .args .values .now) (l .stored) 0)
+same-length-3 : tie.Need-same-length-3
+same-length-3 c = search needs
 
-  next-fits : count next ≤ length (c .before .loop .addresses)
-  next-fits =
-      let a = entry .args in
-      storing-fits (a .tainted) (a .addresses .now) (a .numbers .now) (a .taints .now) (a .count) (a .start) (a .values .now)
-      _ _ _ _ _ (c .before .loop .inv) (c .loop-test .taken) (entry .pre .1 .1)
-
-store-requires : tie.Need-store-requires Inv-loop μ-loop
-store-requires c κs = (c .before .before .before .before .before .loop .inv .ordered, next-fits (c .before .before .before .before))
-
-add-stored : tie.Need-add-stored Inv-loop μ-loop
-add-stored c = omega arith
-
-loop-less : tie.Need-loop-less Inv-loop μ-loop
-loop-less c = omega arith
-
-loop-again : tie.Need-loop-again Inv-loop μ-loop
-loop-again c =
-    let t = c .before .before .before .before .before .before .before .before .before .before .before in
-    let a = entry t .args in
-    storing-next (a .tainted) (a .addresses .now) (a .numbers .now) (a .taints .now) (a .count) (a .start) (a .values .now)
-    _ _ _ _ _ (t .before .loop .inv) (t .loop-test .taken) _ _ _ _ (entry t .pre .1 .0) (next-fits t) (c .before .before .before .before .before .before .store .ensures)
-
-same-length : tie.Need-same-length Inv-loop μ-loop
-same-length c = c .before .loop .inv .addressesLength
-
-same-length-2 : tie.Need-same-length-2 Inv-loop μ-loop
-same-length-2 c = c .before .loop .inv .numbersLength
-
-same-length-3 : tie.Need-same-length-3 Inv-loop μ-loop
-same-length-3 c = c .before .loop .inv .taintsLength
-
-returns : tie.Need-returns Inv-loop μ-loop
+returns : tie.Need-returns
 returns c =
-    let a = c .before .before .before .before .before .before .args in
-    storing-end (a .tainted) (a .addresses .now) (a .numbers .now) (a .taints .now) (a .count) (a .start) (a .values .now)
-    _ _ _ _ _ (c .before .loop .inv) (c .loop-test .left)
+    let s = c .before .before .before .before .before .before .before .before .before .before .before .before .before .before .before .before in
+    let a = s .args in
+    let f = span-at _ (a .start) (length (a .values .now)) _ (sym (c .before .before .before .before .before .before .before .before .before .before .find-span .ensures) ∙ c .before .before .before .before .before .before .before .before .at .given .1) in
+    let w = c .before .before .before .before .overwrite .ensures in
+    overwritten-holds (a .tainted) (a .count) (a .addresses .now) (a .numbers .now) (a .taints .now) (s .pre .0) (a .start) _ (f .1) (a .values .now) (f .0) _ _ (w .0) (w .1)
+
+same-length-4 : tie.Need-same-length-4
+same-length-4 c = search needs
+
+same-length-5 : tie.Need-same-length-5
+same-length-5 c = search needs
+
+same-length-6 : tie.Need-same-length-6
+same-length-6 c = search needs
+
+returns-2 : tie.Need-returns-2
+returns-2 c = search needs
 
 pub store-many-spec : {M : Type 1} → statement M
 store-many-spec =
     tie.close
-    (tie.spec Inv-loop μ-loop loop-holds add-store mul-store shared-slice-read-store store-requires add-stored loop-less loop-again same-length same-length-2 same-length-3 returns)
+    (tie.spec
+    find-span-requires
+    enum-known-at
+    overwrite-requires
+    enum-told
+    store-each-requires
+    same-length
+    same-length-2
+    same-length-3
+    returns
+    same-length-4
+    same-length-5
+    same-length-6
+    returns-2)
