@@ -19,8 +19,8 @@ const MOST_OF_PLAIN: f64 = 1.5;
 pub fn table() -> String {
     let mut text = String::from(
         "\
-| program | resume | yardstick | plain | tainted run, no taint | tainted run, taints | resume / plain | plain / yardstick | tainted run / plain |
-|---|---|---|---|---|---|---|---|---|
+| program | resume | yardstick | plain | tainted run | tainted run, with taints | resume / plain | plain / yardstick | tainted run / plain | with taints / plain |
+|---|---|---|---|---|---|---|---|---|---|
 ",
     );
     for row in programs::rows() {
@@ -35,9 +35,9 @@ fn line(row: &[Workload]) -> String {
     let [resume, yardstick, plain, clean, tainted] = [0, 1, 2, 3, 4];
     let speedup = rounds.ratio(resume, plain);
     let of_yardstick = rounds.ratio(plain, yardstick);
-    let of_plain = rounds.ratio(clean, plain).max(rounds.ratio(tainted, plain));
+    let of_plain = rounds.ratio(clean, plain);
     format!(
-        "| {} | {:.0} | {:.2} | {:.2} | {:.2} | {:.2} | {} | {} | {} |\n",
+        "| {} | {:.0} | {:.2} | {:.2} | {:.2} | {:.2} | {} | {} | {} | {:.2} |\n",
         row[0].name,
         rounds.time(resume),
         rounds.time(yardstick),
@@ -47,6 +47,7 @@ fn line(row: &[Workload]) -> String {
         verdict(speedup, speedup >= row[0].wanted_speedup),
         verdict(of_yardstick, of_yardstick <= MOST_OF_YARDSTICK),
         verdict(of_plain, of_plain <= MOST_OF_PLAIN),
+        rounds.ratio(tainted, plain),
     )
 }
 

@@ -1,0 +1,2 @@
+-- A law for the counts that the contracts promise.
+pub mod Counting

@@ -1,0 +1,85 @@
+-- `transcript::text::add_zeros` ends: each turn leaves fewer digits.
+use borrow.Author.Needs.{needs}
+use Rattle.transcript.proofs.text.add_zeros.Statement.{statement}
+use Rattle.transcript.proofs.text.add_zeros.Tie as tie
+
+abbrev Inv-loop : tie.InvT-loop
+Inv-loop line fields text₀ at₀ left₀ text at left = Unit {0}
+
+abbrev μ-loop : tie.MeasureT-loop
+μ-loop line fields text₀ at₀ left₀ text at left = left
+
+read-numbers-requires : tie.Need-read-numbers-requires Inv-loop μ-loop
+read-numbers-requires c κs = search needs
+
+returns : tie.Need-returns Inv-loop μ-loop
+returns c = search needs
+
+add-at : tie.Need-add-at Inv-loop μ-loop
+add-at c = search needs
+
+mul-at : tie.Need-mul-at Inv-loop μ-loop
+mul-at c = search needs
+
+element-copy-out-at : tie.Need-element-copy-out-at Inv-loop μ-loop
+element-copy-out-at c = search needs
+
+add-left : tie.Need-add-left Inv-loop μ-loop
+add-left c = search needs
+
+mul-left : tie.Need-mul-left Inv-loop μ-loop
+mul-left c = search needs
+
+element-copy-out-left : tie.Need-element-copy-out-left Inv-loop μ-loop
+element-copy-out-left c = search needs
+
+loop-holds : tie.Need-loop-holds Inv-loop μ-loop
+loop-holds c = search needs
+
+put-requires : tie.Need-put-requires Inv-loop μ-loop
+put-requires c κs = search needs
+
+sub-left : tie.Need-sub-left Inv-loop μ-loop
+sub-left c = search needs
+
+loop-less : tie.Need-loop-less Inv-loop μ-loop
+loop-less c = search needs
+
+loop-again : tie.Need-loop-again Inv-loop μ-loop
+loop-again c = search needs
+
+add-fields : tie.Need-add-fields Inv-loop μ-loop
+add-fields c = search needs
+
+mul-fields : tie.Need-mul-fields Inv-loop μ-loop
+mul-fields c = search needs
+
+element-write-fields : tie.Need-element-write-fields Inv-loop μ-loop
+element-write-fields c = search needs
+
+returns-2 : tie.Need-returns-2 Inv-loop μ-loop
+returns-2 c = search needs
+
+pub add-zeros-spec : {M : Type 1} → statement M
+add-zeros-spec =
+    tie.close
+    (tie.spec
+    Inv-loop
+    μ-loop
+    read-numbers-requires
+    returns
+    add-at
+    mul-at
+    element-copy-out-at
+    add-left
+    mul-left
+    element-copy-out-left
+    loop-holds
+    put-requires
+    sub-left
+    loop-less
+    loop-again
+    add-fields
+    mul-fields
+    element-write-fields
+    returns-2)

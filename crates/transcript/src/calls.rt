@@ -1,0 +1,190 @@
+// One call of the library: the state is taken out of the fields, and what the call leaves is put into fields again.
+use crate::fields;
+use crate::fields::LONGEST;
+use crate::fields::SIZE;
+use crate::fields::fill;
+use crate::fields::put;
+use crate::fields::put_ten;
+use crate::fields::ten_of;
+use crate::text::TEXT_SIZE;
+use crate::text::first_bytes;
+use rules::Answer;
+use rules::Machine;
+use tainted::Called;
+
+// The library's functions that run a program.
+pub(crate) enum Entry {
+    Words,
+    Text,
+    BudgetText,
+    TaintedWords,
+    TaintedText,
+    TaintedBudgetText,
+}
+
+// What a call answers, and its steps.
+pub(crate) struct Answered {
+    pub(crate) answer: Answer,
+    pub(crate) steps: u64,
+}
+
+// Calls from the state of some fields, and puts what the call leaves into others.
+pub(crate) fn call(
+    entry: Entry,
+    budget: u64,
+    text: &[u8; TEXT_SIZE],
+    fields: &[u64; SIZE],
+    next: &mut [u64; SIZE],
+) -> Answered {
+    let words = words_of(fields);
+    let bytes = first_bytes(text, fields[fields::TEXT + 1] as usize);
+    let machine = machine_of(fields);
+    let register_taints = fields[fields::REGISTERS + 11];
+    let mut addresses = [0u64; LONGEST];
+    let mut numbers = [0u64; LONGEST];
+    let mut taints = [0u64; LONGEST];
+    let mut tape = [0u64; LONGEST];
+    let mut output = [0u64; LONGEST];
+    let addresses_length = fill(&mut addresses, fields, fields::ADDRESSES, 1);
+    let numbers_length = fill(&mut numbers, fields, fields::NUMBERS, 2);
+    let taints_length = fill(&mut taints, fields, fields::TAINTS, 3);
+    let tape_length = fill(&mut tape, fields, fields::TAPE, 4);
+    let output_length = fill(&mut output, fields, fields::OUTPUT, 5);
+    let called = run(
+        entry,
+        budget,
+        words,
+        bytes,
+        machine,
+        register_taints,
+        &mut addresses[..addresses_length],
+        &mut numbers[..numbers_length],
+        &mut taints[..taints_length],
+        &mut tape[..tape_length],
+        &mut output[..output_length],
+    );
+    put(&addresses, next, fields::ADDRESSES);
+    put(&numbers, next, fields::NUMBERS);
+    put(&taints, next, fields::TAINTS);
+    put(&tape, next, fields::TAPE);
+    put(&output, next, fields::OUTPUT);
+    let left = called.machine;
+    put_machine(left, next);
+    next[fields::REGISTERS + 11] = called.register_taints;
+    let answer = called.answer;
+    Answered {
+        answer,
+        steps: called.steps,
+    }
+}
+
+fn words_of(fields: &[u64; SIZE]) -> &[u64] {
+    let all = &fields[..];
+    let count = fields[fields::WORDS] as usize;
+    report::used_output(&all[1..fields::PART], count)
+}
+
+pub(crate) fn machine_of(fields: &[u64; SIZE]) -> Machine {
+    let registers = ten_of(fields, fields::REGISTERS);
+    let state = ten_of(fields, fields::STATE);
+    let used = ten_of(fields, fields::USED);
+    Machine {
+        registers,
+        pc: state[0],
+        clk: state[1],
+        psp: state[2],
+        storage_addr: [state[3], state[4], state[5], state[6]],
+        cell_count: used[0] as usize,
+        tape_count: used[1] as usize,
+        output_count: used[2] as usize,
+    }
+}
+
+fn put_machine(machine: Machine, fields: &mut [u64; SIZE]) {
+    let registers = machine.registers;
+    let context = machine.storage_addr;
+    put_ten(&registers, fields, fields::REGISTERS);
+    fields[fields::STATE + 1] = machine.pc;
+    fields[fields::STATE + 2] = machine.clk;
+    fields[fields::STATE + 3] = machine.psp;
+    fields[fields::STATE + 4] = context[0];
+    fields[fields::STATE + 5] = context[1];
+    fields[fields::STATE + 6] = context[2];
+    fields[fields::STATE + 7] = context[3];
+    fields[fields::USED + 1] = machine.cell_count as u64;
+    fields[fields::USED + 2] = machine.tape_count as u64;
+    fields[fields::USED + 3] = machine.output_count as u64;
+}
+
+fn run(
+    entry: Entry,
+    budget: u64,
+    words: &[u64],
+    text: &[u8],
+    machine: Machine,
+    register_taints: u64,
+    addresses: &mut [u64],
+    numbers: &mut [u64],
+    taints: &mut [u64],
+    tape: &mut [u64],
+    output: &mut [u64],
+) -> Called {
+    match entry {
+        Entry::Words => with_taints(
+            executor::run_words(words, budget, machine, addresses, numbers, tape, output),
+            register_taints,
+        ),
+        Entry::Text => with_taints(
+            executor::run_text(text, budget, machine, addresses, numbers, tape, output),
+            register_taints,
+        ),
+        Entry::BudgetText => with_taints(
+            executor::run_budget_text(text, machine, addresses, numbers, tape, output),
+            register_taints,
+        ),
+        Entry::TaintedWords => tainted::run_words(
+            words,
+            budget,
+            machine,
+            register_taints,
+            addresses,
+            numbers,
+            taints,
+            tape,
+            output,
+        ),
+        Entry::TaintedText => tainted::run_text(
+            text,
+            budget,
+            machine,
+            register_taints,
+            addresses,
+            numbers,
+            taints,
+            tape,
+            output,
+        ),
+        Entry::TaintedBudgetText => tainted::run_budget_text(
+            text,
+            machine,
+            register_taints,
+            addresses,
+            numbers,
+            taints,
+            tape,
+            output,
+        ),
+    }
+}
+
+// A plain call leaves the taints of the registers.
+fn with_taints(called: executor::Called, register_taints: u64) -> Called {
+    let answer = called.answer;
+    let machine = called.machine;
+    Called {
+        answer,
+        steps: called.steps,
+        machine,
+        register_taints,
+    }
+}
