@@ -136,7 +136,11 @@ fn each_compared_opcode_and_operand_kind_is_in_the_list() {
     }
     for kind in 0..7 {
         let has = |operand: Operand| kind_of(operand) == kind;
-        for operand_of in [|frame: &Frame| frame.op0, |frame| frame.op1, |frame| frame.dst] {
+        for operand_of in [
+            |frame: &Frame| frame.op0,
+            |frame: &Frame| frame.op1,
+            |frame: &Frame| frame.dst,
+        ] {
             assert!(cases.iter().any(|case| has(operand_of(&case.program[0]))));
         }
     }
