@@ -18,7 +18,7 @@ pub enum Tested {
 }
 
 // Can a cell hold a number?
-fn is_storable(n: u64) -> bool
+pub fn is_storable(n: u64) -> bool
     ensures { λ r. ⌜ r ≡ isStorable n ⌝ }
 {
     n <= Cell::LARGEST
