@@ -83,6 +83,21 @@ pub enum Operand {
     Pc,
 }
 
+impl Operand {
+    /// Its kind in a frame's first word.
+    pub fn kind(self) -> usize {
+        match self {
+            Operand::Absent => 0,
+            Operand::Immediate(_) => 1,
+            Operand::Register(_) => 2,
+            Operand::Offset(..) => 3,
+            Operand::Factor(..) => 4,
+            Operand::Psp => 5,
+            Operand::Pc => 6,
+        }
+    }
+}
+
 #[derive(Debug, Clone, Copy, PartialEq, Eq)]
 pub struct Frame {
     pub opcode: OlaOpcode,
@@ -168,16 +183,15 @@ impl Frame {
         let opcode = OPCODES.iter().position(|opcode| *opcode == self.opcode);
         let mut words = vec![opcode.expect("every opcode is listed") as u64];
         for (operand, place) in [(self.op0, OP0), (self.op1, OP1), (self.dst, DST)] {
-            let (kind, register, word) = match operand {
-                Operand::Absent => (0, None, None),
-                Operand::Immediate(word) => (1, None, Some(word)),
-                Operand::Register(register) => (2, Some(register), None),
-                Operand::Offset(register, word) => (3, Some(register), Some(word)),
-                Operand::Factor(register, word) => (4, Some(register), Some(word)),
-                Operand::Psp => (5, None, None),
-                Operand::Pc => (6, None, None),
+            let (register, word) = match operand {
+                Operand::Immediate(word) => (None, Some(word)),
+                Operand::Register(register) => (Some(register), None),
+                Operand::Offset(register, word) | Operand::Factor(register, word) => {
+                    (Some(register), Some(word))
+                }
+                Operand::Absent | Operand::Psp | Operand::Pc => (None, None),
             };
-            words[0] |= kind << place.kind;
+            words[0] |= (operand.kind() as u64) << place.kind;
             if let Some(register) = register {
                 words[0] |= 1 << (place.selector as usize + register);
             }

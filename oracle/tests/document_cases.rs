@@ -135,7 +135,7 @@ fn each_compared_opcode_and_operand_kind_is_in_the_list() {
         assert!(cases.iter().any(|case| case.program[0].opcode == opcode));
     }
     for kind in 0..7 {
-        let has = |operand: Operand| kind_of(operand) == kind;
+        let has = |operand: Operand| operand.kind() == kind;
         for operand_of in [
             |frame: &Frame| frame.op0,
             |frame: &Frame| frame.op1,
@@ -143,18 +143,6 @@ fn each_compared_opcode_and_operand_kind_is_in_the_list() {
         ] {
             assert!(cases.iter().any(|case| has(operand_of(&case.program[0]))));
         }
-    }
-}
-
-fn kind_of(operand: Operand) -> u32 {
-    match operand {
-        Operand::Absent => 0,
-        Operand::Immediate(_) => 1,
-        Operand::Register(_) => 2,
-        Operand::Offset(..) => 3,
-        Operand::Factor(..) => 4,
-        Operand::Psp => 5,
-        Operand::Pc => 6,
     }
 }
 

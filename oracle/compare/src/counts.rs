@@ -4,7 +4,7 @@ use ola_core::vm::opcodes::OlaOpcode;
 use ola_library::Answer;
 use oracle::domain::NotCompared;
 use oracle::first_list::operand_kinds::compared_opcodes;
-use oracle::frames::{Frame, Operand, OPCODES};
+use oracle::frames::{Frame, OPCODES};
 
 use crate::generate::FORMS;
 use crate::model::Touched;
@@ -88,7 +88,7 @@ impl StepCounts {
                 self.refused_by[opcode] += 1;
             }
             for (place, operand) in [frame.op0, frame.op1, frame.dst].into_iter().enumerate() {
-                self.kinds[opcode][place][kind_of(operand)] += 1;
+                self.kinds[opcode][place][operand.kind()] += 1;
             }
         }
         if let Some(touched) = stepped.touched {
@@ -220,16 +220,4 @@ fn compared_combinations() -> Vec<(OlaOpcode, usize, usize)> {
         }
     }
     combinations
-}
-
-fn kind_of(operand: Operand) -> usize {
-    match operand {
-        Operand::Absent => 0,
-        Operand::Immediate(_) => 1,
-        Operand::Register(_) => 2,
-        Operand::Offset(..) => 3,
-        Operand::Factor(..) => 4,
-        Operand::Psp => 5,
-        Operand::Pc => 6,
-    }
 }
