@@ -1,11 +1,11 @@
 #!/usr/bin/env python3
 """Plants the faults of faults.txt, one at a time, in a copy of the library's source, and shows which programs notice each.
 
-Nothing is proved: `rt try` builds the programs `cases` and `replay` of the copy as they are and compares what they write with their stored
-output. Progress goes to standard error, the table to standard output. The script fails where
+Nothing is proved: `rt try` builds the programs `cases` and `replay` of the copy as they are, and compares what they write with their
+stored output. Progress goes to standard error, the table to standard output. The script fails where
 
 - the unchanged copy is not accepted by both programs,
-- a fault is noticed by neither, or does not build, or its program does not end,
+- a fault is noticed by neither, does not build, or keeps a program from ending,
 - an opcode, an operand kind, a refusal, a mark rule or a listed use of document 01 has no fault.
 """
 
@@ -21,11 +21,10 @@ import tempfile
 
 REPOSITORY = pathlib.Path(__file__).resolve().parents[2]
 FAULTS = pathlib.Path(__file__).with_name("faults.txt")
-
 PROGRAMS = ["cases", "replay"]
 
 # `rt try` runs the interpreter, which gives up on inputs as long as these, and then native builds. What this one writes decides; the slow
-# one that would come after it is not waited for.
+# one that comes after it is not waited for.
 BUILD = "the native program at -O3"
 
 OPCODES = (
@@ -64,7 +63,7 @@ LISTED_USES = (
     + ["cells of TSTORE", "cells of SCCALL", "pc of RET"]
 )
 
-# What has to have a fault, as the lines `for:` name it.
+# What must have a fault, in the words of the lines `for:`.
 REQUIRED = (
     [f"opcode {opcode}" for opcode in OPCODES]
     + [f"operand kind {kind}" for kind in OPERAND_KINDS]
@@ -80,22 +79,33 @@ class Fault:
     def __init__(self, name):
         self.name = name
         self.stands_for = []
-        self.file = None
+        self.file = ""
         self.old = []
         self.new = []
+
+    def planted(self, text):
+        """The text with the fault. The old lines must stand in it exactly once."""
+        old = "\n".join(["", *self.old, ""])
+        if text.count(old) != 1:
+            stop(f"fault {self.name}: its old lines stand {text.count(old)} times in {self.file}, not once")
+        return text.replace(old, "\n".join(["", *self.new, ""]))
 
 
 def stop(message):
     sys.exit(f"plant.py: {message}")
 
 
+def progress(message):
+    print(message, file=sys.stderr, flush=True)
+
+
 def read_faults():
     """The faults of faults.txt, whose head describes the format."""
     faults = []
     for number, line in enumerate(FAULTS.read_text().splitlines(), 1):
-        if not line or line.startswith("#"):
-            continue
         word, _, rest = line.partition(": ")
+        if not line or line[0] == "#":
+            continue
         if word == "fault":
             faults.append(Fault(rest))
         elif not faults:
@@ -114,27 +124,22 @@ def read_faults():
     return faults
 
 
-def check_list(faults):
-    """Stops where a fault is incomplete, two have one name, or something required has none."""
+def check_faults(faults):
+    """Stops where two faults have one name, a fault cannot be planted, or something required has none."""
     names = set()
     for fault in faults:
-        if not fault.stands_for or not fault.file or fault.old == fault.new:
-            stop(f"fault {fault.name}: it needs a line 'for:', a line 'file:' and changed lines")
         if fault.name in names:
-            stop(f"fault {fault.name}: the name is used twice")
+            stop(f"fault {fault.name}: there are two of this name")
         names.add(fault.name)
+        if not fault.stands_for or fault.old == fault.new:
+            stop(f"fault {fault.name}: it needs a line 'for:' and changed lines")
+        if not (REPOSITORY / fault.file).is_file():
+            stop(f"fault {fault.name}: there is no file '{fault.file}'")
+        fault.planted((REPOSITORY / fault.file).read_text())
     named = {label for fault in faults for label in fault.stands_for}
     missing = [label for label in REQUIRED if label not in named]
     if missing:
         stop("no fault stands for: " + "; ".join(missing))
-
-
-def planted(fault, text):
-    """The text with the fault. Its old lines must stand there exactly once."""
-    old = "\n".join(["", *fault.old, ""])
-    if text.count(old) != 1:
-        stop(f"fault {fault.name}: its old lines stand {text.count(old)} times in {fault.file}, not once")
-    return text.replace(old, "\n".join(["", *fault.new, ""]))
 
 
 def copy_sources(copy):
@@ -172,59 +177,60 @@ def notices(copy, program):
 
 
 def noticed_by(fault):
-    """The programs that notice a fault; with no fault, those that refuse the unchanged copy."""
+    """The programs that notice a fault; without one, those that do not accept the unchanged copy."""
     with tempfile.TemporaryDirectory() as folder:
         copy = pathlib.Path(folder)
         copy_sources(copy)
         if fault:
             file = copy / fault.file
-            file.write_text(planted(fault, file.read_text()))
+            file.write_text(fault.planted(file.read_text()))
         return [program for program in PROGRAMS if notices(copy, program)]
 
 
-def progress(text):
-    print(text, file=sys.stderr, flush=True)
-
-
 def plant_all(faults, jobs):
-    """Plants the faults, so many at a time. Answers who noticed each, by name, and what went wrong."""
-    results = {}
+    """Plants the faults, so many at a time. Answers what the table says of each, by name, and the errors."""
+    verdicts = {}
     errors = []
     with concurrent.futures.ThreadPoolExecutor(jobs) as pool:
-        runs = {pool.submit(noticed_by, fault): fault for fault in faults}
-        for done, run in enumerate(concurrent.futures.as_completed(runs), 1):
-            name = runs[run].name
-            try:
-                results[name] = run.result()
-                progress(f"{done}/{len(faults)} {name}: noticed by {', '.join(results[name]) or 'NOBODY'}")
-            except RuntimeError as error:
-                errors.append(f"fault {name}: {error}")
-                progress(f"{done}/{len(faults)} {name}: ERROR")
-    errors += [f"fault {name}: noticed by nobody" for name, programs in results.items() if not programs]
-    return results, errors
+        runs = {pool.submit(noticed_by, fault): fault.name for fault in faults}
+        try:
+            for run in concurrent.futures.as_completed(runs):
+                name = runs[run]
+                try:
+                    verdicts[name] = ", ".join(run.result()) or "NOBODY"
+                    if verdicts[name] == "NOBODY":
+                        errors.append(f"fault {name}: noticed by nobody")
+                except RuntimeError as error:
+                    verdicts[name] = "ERROR"
+                    errors.append(f"fault {name}: {error}")
+                progress(f"{len(verdicts)}/{len(faults)} {name}: {verdicts[name]}")
+        except KeyboardInterrupt:
+            pool.shutdown(cancel_futures=True)
+            raise
+    return verdicts, errors
 
 
 def main():
     parser = argparse.ArgumentParser(description=__doc__, formatter_class=argparse.RawDescriptionHelpFormatter)
-    parser.add_argument("--only", default="", metavar="TEXT", help="plant only the faults whose name or purpose has this text")
-    parser.add_argument("--jobs", type=int, default=os.cpu_count(), metavar="N", help="so many copies at a time (default: the processors)")
+    parser.add_argument("--only", default="", metavar="TEXT", help="only the faults with this text in their name or purpose")
+    parser.add_argument("--jobs", type=int, default=os.cpu_count(), metavar="N", help="so many at a time (default: the processors)")
     options = parser.parse_args()
+    if not shutil.which("rt"):
+        stop("the command `rt` of the Rattle toolchain is not there")
     faults = read_faults()
-    check_list(faults)
-    for fault in faults:
-        planted(fault, (REPOSITORY / fault.file).read_text())
-    chosen = [fault for fault in faults if any(options.only in text for text in [fault.name, *fault.stands_for])]
-    progress(f"the unchanged copy, then {len(chosen)} faults")
+    check_faults(faults)
+    faults = [fault for fault in faults if any(options.only in text for text in [fault.name, *fault.stands_for])]
+    progress(f"the unchanged copy, then {len(faults)} faults")
     refused_by = noticed_by(None)
     if refused_by:
         stop(f"the unchanged copy is not accepted by {' and '.join(refused_by)}")
-    results, errors = plant_all(chosen, options.jobs)
+    verdicts, errors = plant_all(faults, options.jobs)
     print("| fault | stands for | noticed by |")
     print("|---|---|---|")
-    for fault in chosen:
-        print(f"| {fault.name} | {'; '.join(fault.stands_for)} | {', '.join(results.get(fault.name, ['error']))} |")
+    for fault in faults:
+        print(f"| {fault.name} | {'; '.join(fault.stands_for)} | {verdicts[fault.name]} |")
     if errors:
-        stop("\n".join([f"{len(errors)} of {len(chosen)} faults:", *errors]))
+        stop("\n".join([f"{len(errors)} of {len(faults)} faults failed:", *errors]))
 
 
 if __name__ == "__main__":
