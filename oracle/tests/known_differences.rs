@@ -14,7 +14,7 @@ use oracle::domain::{HEAP_END, P, STACK_END};
 use oracle::frames::{Frame, Operand};
 use oracle::outcome::{Answer, Failure, Outcome};
 use oracle::state::State;
-use oracle::stepper::Stepper;
+use oracle::stepper::{Mode, Stepper};
 
 /// What the source does with the difference of this name.
 fn run(name: &str) -> (Answer, State) {
@@ -129,6 +129,42 @@ fn nothing_is_limited() {
     assert_eq!(answer.steps, 1);
     let (answer, _) = run("end from a clock at its limit");
     assert_eq!(answer.outcome, Outcome::Ended(vec![]));
+}
+
+/// Document 01 pauses such a loop after its budget.
+#[test]
+fn a_loop_goes_on_until_the_clock_ends() {
+    let to_itself = frame(
+        OlaOpcode::JMP,
+        Operand::Absent,
+        Operand::Immediate(0),
+        Operand::Absent,
+    );
+    let start = State {
+        clk: 1_000_000_000_000 - 1_000,
+        ..State::default()
+    };
+    let mut stepper = Stepper::new(&[to_itself], &start, Mode::Plain);
+    let answer = stepper.run(u64::MAX);
+    assert_eq!(answer.steps, 1_000);
+    match answer.outcome {
+        Outcome::Failed(failure) => assert_eq!(failure.refusal(), Some(17)),
+        other => panic!("{other:?}"),
+    }
+}
+
+/// Document 01 refuses this 11: the first cell is not held. The source asks for memory for all of them before it looks.
+#[test]
+fn a_long_span_asks_for_memory_first() {
+    let tstore = frame(
+        OlaOpcode::TSTORE,
+        Operand::Immediate(0),
+        Operand::Immediate(1 << 60),
+        Operand::Absent,
+    );
+    let answer = Stepper::new(&[tstore], &State::default(), Mode::Plain).step();
+    let message = "capacity overflow".to_string();
+    assert_eq!(answer.outcome, Outcome::Panicked(message));
 }
 
 #[test]
