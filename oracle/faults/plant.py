@@ -220,6 +220,8 @@ def main():
     faults = read_faults()
     check_faults(faults)
     faults = [fault for fault in faults if any(options.only in text for text in [fault.name, *fault.stands_for])]
+    if not faults:
+        stop(f"no fault has '{options.only}' in its name or purpose")
     progress(f"the unchanged copy, then {len(faults)} faults")
     refused_by = noticed_by(None)
     if refused_by:
