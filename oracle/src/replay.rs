@@ -1,6 +1,6 @@
 //! The cases of `first_list` as the program `replay` reads them, and what it must write for them, found by running the source.
 //!
-//! The format is that of crates/transcript/src/lib.rt. After a refusal the source's clk, registers, tape and output are written; pc
+//! The format is that of conformance/FORMAT.md. After a refusal the source's clk, registers, tape and output are written; pc
 //! and cells are those of before the refused step, as document 01 has it.
 
 use std::fmt::Write;
@@ -20,11 +20,11 @@ const UNUSED: u64 = 0xEEEE_EEEE_EEEE_EEEE;
 pub fn input() -> String {
     let mut text = format!(
         "\
-# Cases for the program `replay`. Its stored output has the answers of `OlaContractExecutor::resume` (Sin7Y/olavm 74fb50ee61) in its mode
+# The replayed vectors. Their stored answers are those of `OlaContractExecutor::resume` (Sin7Y/olavm 74fb50ee61) in its mode
 # without traces, built for release. Both files are made by
 #   cargo run --release --offline --manifest-path oracle/Cargo.toml -- replay crates/replay
-# The format is described in crates/transcript/src/lib.rt. Cases come first from document 01 and by hand, then from SplitMix64 with the
-# seed {SEED:016x}. All are in the domain that document 01 compares.
+# The format is described in conformance/FORMAT.md. Cases come first from document 01 and by hand, then from SplitMix64 with the seed
+# {SEED:016x}. All are in the domain that document 01 compares.
 "
     );
     for (index, case) in cases().iter().enumerate() {

@@ -10,6 +10,7 @@ mod guarded;
 mod lending;
 mod model;
 mod options;
+mod play;
 mod predict;
 mod progress;
 mod region_edges;
@@ -20,6 +21,7 @@ mod tables;
 use std::process::ExitCode;
 
 use options::Options;
+use play::Machine;
 
 /// A part of the comparison.
 struct Part {
@@ -62,6 +64,8 @@ fn main() -> ExitCode {
             print!("{}", help());
             Ok(())
         }
+        Some((name, [])) if name == "play" => play::play(Machine::Library),
+        Some((name, [])) if name == "play-model" => play::play(Machine::Model),
         Some((name, rest)) => compare(name, rest),
         None => Err(help()),
     };
@@ -100,6 +104,8 @@ fn help() -> String {
 usage: compare COMMAND [--count COUNT] [--seed SEED] [--only NUMBER]
 
 {}  all        each of them
+  play       plays the cases of standard input on the library (conformance/FORMAT.md)
+  play-model plays them on the models of the entry and of the run
   --help     prints this
 
   --count    how much is compared at least; by default {}

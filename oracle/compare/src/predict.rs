@@ -12,7 +12,7 @@ pub struct Prediction {
     /// The frames of which refusal 2 carries one.
     malformed: Vec<u64>,
     /// Every element of every buffer.
-    left: Lent,
+    pub left: Lent,
     /// Where refusal 18 comes.
     pub sink: Option<Sink>,
     /// Why the entry refuses.

@@ -1,0 +1,70 @@
+"""A case, and its text in the format of ../FORMAT.md."""
+
+from dataclasses import dataclass, field
+
+from .numbers import HEAP_END, MOST_CELLS, MOST_VALUES
+
+
+def numbers_line(word, numbers):
+    return " ".join([word] + [f"{number:x}" for number in numbers]) + "\n"
+
+
+@dataclass
+class Case:
+    name: str
+    words: list = None
+    text: list = None
+    registers: dict = field(default_factory=dict)
+    register_marks: int = 0
+    pc: int = 0
+    clk: int = 0
+    psp: int = HEAP_END
+    context: tuple = (0, 0, 0, 0)
+    cells: dict = field(default_factory=dict)
+    cell_marks: set = field(default_factory=set)
+    tape: list = field(default_factory=list)
+    output: list = field(default_factory=list)
+    # The lent lengths, where they are not the greatest.
+    cells_length: int = MOST_CELLS
+    tape_length: int = MOST_VALUES
+    output_length: int = MOST_VALUES
+    # Lines that take the place of those above, by their first word.
+    damage: dict = field(default_factory=dict)
+    # The lines plain and guarded: which run, and its budget, or None where the text has it.
+    runs: list = field(default_factory=lambda: [("plain", 1)])
+
+    def lines(self):
+        registers = [self.registers.get(number, 0) for number in range(10)]
+        addresses = sorted(self.cells)
+        marks = [int(address in self.cell_marks) for address in addresses]
+        state = [self.pc, self.clk, self.psp, *self.context]
+        used = [len(addresses), len(self.tape), len(self.output)]
+        lengths = [self.cells_length] * 3 + [self.tape_length, self.output_length]
+        lines = {
+            "registers": registers + [self.register_marks] if any(registers) or self.register_marks else [],
+            "state": state if state != [0, 0, HEAP_END, 0, 0, 0, 0] else [],
+            "used": used if any(used) else [],
+            "buffers": lengths if lengths != [MOST_CELLS] * 3 + [MOST_VALUES] * 2 else [],
+            "addresses": addresses,
+            "numbers": [self.cells[address] for address in addresses],
+            "marks": marks if self.is_guarded() else [],
+            "tape": self.tape,
+            "output": self.output,
+        }
+        return {**lines, **self.damage}
+
+    def is_guarded(self):
+        return any(run == "guarded" for run, _ in self.runs)
+
+    def write(self):
+        text = f"\ncase {self.name}\n"
+        if self.words is not None:
+            text += numbers_line("words", self.words)
+        for line in self.text or []:
+            text += line + "\n"
+        for word, numbers in self.lines().items():
+            if numbers:
+                text += numbers_line(word, numbers)
+        for run, budget in self.runs:
+            text += numbers_line(run, [] if budget is None else [budget])
+        return text

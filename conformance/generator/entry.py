@@ -1,0 +1,201 @@
+"""What is refused before a step: programs, texts and states that are not fit, alone and together."""
+
+from .case import Case
+from .frames import OPCODES, frame, immediate, register
+from .numbers import CLOCK_END, HEAP_END, MOST_CELLS, MOST_FRAMES, MOST_VALUES, P
+from .passing import CELLS, OUTPUT, TAPE
+
+MOVE = frame("MOV", op1=immediate(5), dst=register(1))
+ADD = frame("ADD", register(1), register(2), register(3))
+END = frame("END")
+REGISTERS = {1: 3, 2: 5, 9: 24}
+BOTH_RUNS = [("plain", 3), ("guarded", 3)]
+
+
+def digits(words):
+    return "".join(f"{word:016x}" for word in words)
+
+
+def line(words):
+    return f"line {digits(words)}"
+
+
+def state(case):
+    """The passing state."""
+    case.registers = dict(REGISTERS)
+    case.cells = dict(CELLS)
+    case.tape = list(TAPE)
+    case.output = list(OUTPUT)
+    return case
+
+
+# Refusals 1 and 2 of bare words.
+WORD_PROGRAMS = {
+    "fit": MOVE + ADD + END,
+    "no frame": [],
+    "512 frames": END * MOST_FRAMES,
+    "513 frames": END * (MOST_FRAMES + 1),
+    "512 frames, the last malformed": END * (MOST_FRAMES - 1) + [27],
+    "513 frames, the last malformed": END * MOST_FRAMES + [27],
+    "513 words, the first malformed": [27] + END * MOST_FRAMES,
+    "value missing": ADD + MOVE[:1],
+    "two of three values missing": frame("TLOAD", immediate(1), immediate(2), immediate(3))[:2],
+    "opcode 27": ADD + [27] + ADD,
+    "opcode 31": [31],
+    "malformed second and fourth": ADD + [1 << 5] + ADD + [1 << 5],
+    "a value word that looks malformed": frame("MOV", op1=immediate(31), dst=register(1)) + END,
+}
+
+# Lines of a text; the first stands where a budget line would.
+TEXT_PROGRAMS = {
+    "fit": [line(MOVE), line(ADD), line(END)],
+    "no line": ["line"],
+    "one digit too few": [line(MOVE)[:-1], line(END)],
+    "one digit too many": [line(MOVE) + "0", line(END)],
+    "a word too many": [line(END + [0]), line(END)],
+    "a word missing": [line(MOVE[:1]), line(END)],
+    "upper case": [line(MOVE), line(END).replace("b", "B")],
+    "a space": [line(MOVE), line(END)[:-1] + " "],
+    "a letter g": [line(MOVE), line(END)[:-1] + "g"],
+    "an empty line": [line(MOVE), "line", line(END)],
+    "a carriage return": [line(MOVE) + "\r", line(END)],
+    "a rest without a line feed": [line(MOVE), "zeros 10"],
+    "only a rest": ["zeros 10"],
+    "several malformed": [line(MOVE), line([27]), line(ADD), line([28])],
+    "512 lines": [line(END)] * MOST_FRAMES,
+    "513 lines": [line(END)] * (MOST_FRAMES + 1),
+    "513 lines, all malformed": ["line"] * (MOST_FRAMES + 1),
+    "512 lines and a rest": ["line"] * MOST_FRAMES + ["zeros 1"],
+    "65536 bytes": ["zeros 10000"],
+    "65537 bytes": ["zeros 10001"],
+}
+
+# Those that stand behind a budget line too, and what makes them as long as a text may be.
+AFTER_BUDGET = ["fit", "no line", "an empty line", "a rest without a line feed", "only a rest", "several malformed"]
+BUDGET_LINE_BYTES = 17
+
+BUDGET_LINES = {
+    "budget 0": "line 0000000000000000",
+    "budget 2": "line 0000000000000002",
+    "the greatest budget": "line ffffffffffffffff",
+    "budget of 15 digits": "line 000000000000002",
+    "budget of 17 digits": "line 00000000000000002",
+    "budget in upper case": "line 000000000000000A",
+    "an empty budget line": "line",
+}
+
+# Refusal 3: lines that take the place of the state's own.
+COUNTS = [len(CELLS), len(TAPE), len(OUTPUT)]
+LENGTHS = [MOST_CELLS] * 3 + [MOST_VALUES] * 2
+RISING = sorted(CELLS)
+
+
+def lengths(**changes):
+    places = ["addresses", "numbers", "marks", "tape", "output"]
+    return [changes.get(place, length) for place, length in zip(places, LENGTHS)]
+
+
+STATES = {
+    "fit": {},
+    "clk below its end": {"state": [0, CLOCK_END - 4, HEAP_END]},
+    "clk at its end": {"state": [0, CLOCK_END, HEAP_END]},
+    "clk of all ones": {"state": [0, 2**64 - 1, HEAP_END]},
+    "exactly long enough": {"buffers": [COUNTS[0]] * 3 + COUNTS[1:]},
+    "cell count above the length": {"buffers": [COUNTS[0] - 1] * 3 + LENGTHS[3:]},
+    "tape count above the length": {"buffers": lengths(tape=COUNTS[1] - 1)},
+    "output count above the length": {"buffers": lengths(output=COUNTS[2] - 1)},
+    "counts of all ones": {"used": [2**64 - 1] * 3},
+    "addresses shorter than numbers": {"buffers": lengths(addresses=MOST_CELLS - 1)},
+    "numbers shorter than addresses": {"buffers": lengths(numbers=MOST_CELLS - 1)},
+    "marks shorter": {"buffers": lengths(marks=MOST_CELLS - 1)},
+    "marks longer": {"buffers": lengths(marks=MOST_CELLS + 1)},
+    "no marks": {"buffers": lengths(marks=0)},
+    "2049 cells": {"buffers": [MOST_CELLS + 1] * 3 + LENGTHS[3:]},
+    "tape of 4097": {"buffers": lengths(tape=MOST_VALUES + 1)},
+    "output of 4097": {"buffers": lengths(output=MOST_VALUES + 1)},
+    "two equal addresses": {"addresses": [1, 1] + RISING[2:]},
+    "falling addresses": {"addresses": [2, 1] + RISING[2:]},
+    "not rising beyond the count": {"addresses": RISING + [3, 2, 1]},
+    "last cell of the heap": {"addresses": RISING[:-1] + [HEAP_END - 1]},
+    "past the heap": {"addresses": RISING[:-1] + [HEAP_END]},
+    "address of all ones": {"addresses": RISING[:-1] + [2**64 - 1]},
+    "past the heap, beyond the count": {"addresses": RISING + [HEAP_END]},
+    "cell of p": {"numbers": [P] * COUNTS[0]},
+    "cell of p + 1": {"numbers": [1] * (COUNTS[0] - 1) + [P + 1]},
+    "cell of p + 1 beyond the count": {"numbers": [1] * COUNTS[0] + [P + 1]},
+    "registers above p": {"registers": [2**64 - 1] * 10 + [0]},
+    "mark of 2": {"marks": [0] * (COUNTS[0] - 1) + [2]},
+    "mark of 2 beyond the count": {"marks": [0] * COUNTS[0] + [2]},
+    "all cells marked": {"marks": [1] * COUNTS[0]},
+    "marked cell of p - 1": {"marks": [1], "numbers": [P - 1]},
+    "marked cell of p": {"marks": [1], "numbers": [P]},
+    "marked register of p - 1": {"registers": [0, 3, 5, P - 1, 0, 0, 0, 0, 0, 0, 1 << 3]},
+    "marked register of p": {"registers": [0, 3, 5, P, 0, 0, 0, 0, 0, 0, 1 << 3]},
+    "unmarked register of p beside a marked one": {"registers": [0, 3, 5, P, 0, 0, 0, 0, 0, 0, 1 << 4]},
+    "all registers marked": {"registers": [0] * 10 + [0x3FF]},
+    "a register mark beyond R9": {"registers": [0] * 10 + [0x400]},
+    "the highest register mark": {"registers": [0] * 10 + [1 << 63]},
+}
+
+# Used cells and marks stand in the buffers' first places, so that a damaged line is made whole with what the state has there.
+OWN = {"addresses": RISING, "numbers": [CELLS[address] for address in RISING], "marks": [0] * len(CELLS)}
+
+
+def damage(lines):
+    whole = {}
+    for word, numbers in lines.items():
+        whole[word] = numbers + OWN.get(word, [])[len(numbers) :]
+    return whole
+
+
+def cases():
+    for name, words in WORD_PROGRAMS.items():
+        yield state(Case(f"words: {name}", words, runs=BOTH_RUNS))
+    for name, lines in TEXT_PROGRAMS.items():
+        yield state(Case(f"text: {name}", text=lines, runs=BOTH_RUNS))
+    yield from budget_texts()
+    for name, lines in STATES.items():
+        case = state(Case(f"state: {name}", WORD_PROGRAMS["fit"], runs=BOTH_RUNS))
+        case.damage = damage(lines)
+        yield case
+    yield from together()
+    yield from first_words()
+
+
+def budget_texts():
+    """Texts whose first line is the budget line; it counts among the bytes, not among the frames."""
+    runs = [("plain", None), ("guarded", None)]
+    for budget, budget_line in BUDGET_LINES.items():
+        yield state(Case(f"{budget} alone", text=[budget_line], runs=runs))
+        for name in AFTER_BUDGET:
+            yield state(Case(f"{budget}, then: {name}", text=[budget_line] + TEXT_PROGRAMS[name], runs=runs))
+    budget_line = BUDGET_LINES["budget 2"]
+    for name in ("512 lines", "513 lines"):
+        yield state(Case(f"budget 2, then: {name}", text=[budget_line] + TEXT_PROGRAMS[name], runs=runs))
+    for size in (65536, 65537):
+        lines = [budget_line, f"zeros {size - BUDGET_LINE_BYTES:x}"]
+        yield state(Case(f"{size} bytes with the budget line", text=lines, runs=runs))
+
+
+def together():
+    """1 before 2, 2 before 3, 3 before what a step would meet."""
+    for program in ("no frame", "513 frames", "opcode 27"):
+        for name in ("clk at its end", "two equal addresses", "a register mark beyond R9"):
+            case = state(Case(f"{program}, and {name}", WORD_PROGRAMS[program], runs=BOTH_RUNS))
+            case.damage = damage(STATES[name])
+            yield case
+    for name in ("clk at its end", "cell of p + 1", "mark of 2", "a register mark beyond R9"):
+        case = state(Case(f"no instruction at pc, and {name}", WORD_PROGRAMS["fit"], pc=77, runs=BOTH_RUNS))
+        case.damage = damage({**STATES[name], "state": [77, STATES[name].get("state", [0, 0])[1], HEAP_END]})
+        yield case
+
+
+def first_words():
+    """Each bit of a first word changed, alone."""
+    for opcode in ("ADD", "MOV", "END"):
+        words = {"ADD": ADD, "MOV": MOVE, "END": END}[opcode]
+        for bit in range(64):
+            yield state(Case(f"{opcode} with bit {bit} changed", [words[0] ^ 1 << bit] + words[1:] + END, runs=[("plain", 1)]))
+    for opcode in range(32):
+        name = OPCODES[opcode] if opcode < len(OPCODES) else "no opcode"
+        yield state(Case(f"number {opcode}: {name}", [ADD[0] | opcode], runs=[("plain", 1)]))

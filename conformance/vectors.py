@@ -1,0 +1,65 @@
+"""The vectors: pairs of files, cases and the answers that an implementation must write for them."""
+
+import re
+from pathlib import Path
+from typing import NamedTuple
+
+FOLDER = Path(__file__).parent / "vectors"
+
+# From the most readable one to the largest.
+NAMES = ["worked", "replayed", "generated"]
+
+ANSWER = re.compile(r"(run )?(e[0-3]|[0-9]+)( [0-9a-f]+)+$")
+
+
+class Call(NamedTuple):
+    """A call: the line plain or guarded that it belongs to, and the lines written for it, its answer first."""
+
+    run: str
+    lines: list
+
+
+class Answers(NamedTuple):
+    """What was written for a case."""
+
+    name: str
+    calls: list
+
+
+def read_cases(name):
+    """The cases' file, and the lines of each case."""
+    data = (FOLDER / f"{name}.cases").read_bytes()
+    cases = []
+    for line in lines_of(data):
+        if line.startswith("case "):
+            cases.append([])
+        if cases and line and not line.startswith("#"):
+            cases[-1].append(line)
+    return data, cases
+
+
+def read_answers(name):
+    return parse_answers((FOLDER / f"{name}.answers").read_bytes())
+
+
+def parse_answers(data):
+    answers, run = [], ""
+    for line in lines_of(data):
+        if line.startswith("case "):
+            answers.append(Answers(line, []))
+            run = ""
+        elif not answers:
+            continue
+        elif line.startswith(("plain", "guarded")):
+            run = line
+        elif ANSWER.match(line) or not answers[-1].calls or answers[-1].calls[-1].run != run:
+            answers[-1].calls.append(Call(run, [line]))
+        else:
+            answers[-1].calls[-1].lines.append(line)
+    return answers
+
+
+def lines_of(data):
+    """A line ends at its line feed and nowhere else."""
+    lines = data.decode("latin-1").split("\n")
+    return lines[:-1] if lines[-1] == "" else lines

@@ -1,0 +1,95 @@
+//! Plays the cases of standard input, as crates/transcript does, on the library through its C interface or on the model.
+//! conformance/FORMAT.md describes what is read and written.
+
+mod case;
+mod transcript;
+
+use std::io::{Read, Write};
+
+use ola_library::{run, run_tainted, Answer, Lent, Program};
+
+use crate::entry::Run;
+use crate::predict::predict;
+use case::Case;
+use transcript::Transcript;
+
+/// What answers the cases.
+#[derive(Debug, Clone, Copy)]
+pub enum Machine {
+    Library,
+    Model,
+}
+
+impl Machine {
+    fn call(self, program: Program, lent: &mut Lent, kind: Run) -> Answer {
+        match (self, kind) {
+            (Machine::Library, Run::Plain) => run(program, lent),
+            (Machine::Library, Run::Tainted) => run_tainted(program, lent),
+            (Machine::Model, _) => {
+                let prediction = predict(program, lent, kind);
+                *lent = prediction.left;
+                prediction.answer
+            }
+        }
+    }
+}
+
+pub fn play(machine: Machine) -> Result<(), String> {
+    let mut input = vec![];
+    let mut output = String::new();
+    let failed = |error: std::io::Error| error.to_string();
+    std::io::stdin().read_to_end(&mut input).map_err(failed)?;
+    let mut case = Case::default();
+    for (number, line) in (1..).zip(input.split(|byte| *byte == b'\n')) {
+        let understood = match line.first() {
+            None | Some(b'#') => Some(()),
+            Some(b'c') => {
+                case = Case::default();
+                repeat(line, &mut output);
+                Some(())
+            }
+            Some(b'p' | b'g') => {
+                repeat(line, &mut output);
+                let kind = if line[0] == b'p' {
+                    Run::Plain
+                } else {
+                    Run::Tainted
+                };
+                case.budget_of(line)
+                    .map(|budget| play_case(machine, &case, kind, budget, &mut output))
+            }
+            Some(_) => case.take(line),
+        };
+        understood.ok_or(format!("line {number} is not understood"))?;
+    }
+    std::io::stdout()
+        .write_all(output.as_bytes())
+        .map_err(failed)
+}
+
+fn repeat(line: &[u8], output: &mut String) {
+    output.push_str(&String::from_utf8_lossy(line));
+    output.push('\n');
+}
+
+/// Step after step, and again in one call; a text with a budget line in one call alone.
+fn play_case(machine: Machine, case: &Case, kind: Run, budget: Option<u64>, output: &mut String) {
+    let start = case.lent();
+    let mut transcript = Transcript::new(&start);
+    let mut lent = start.clone();
+    for _ in 0..budget.unwrap_or(0) {
+        let answer = machine.call(case.program(Some(1)), &mut lent, kind);
+        transcript.write(&answer, &lent, output);
+        if !is_paused(&answer) {
+            break;
+        }
+    }
+    let mut lent = start;
+    let answer = machine.call(case.program(budget), &mut lent, kind);
+    output.push_str("run ");
+    transcript.write(&answer, &lent, output);
+}
+
+fn is_paused(answer: &Answer) -> bool {
+    (answer.refused, answer.number) == (0, 3)
+}

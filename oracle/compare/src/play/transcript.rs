@@ -1,0 +1,86 @@
+//! What the calls of a case answered and changed.
+
+use std::fmt::Write;
+
+use ola_library::{Answer, Lent};
+
+const ENTRY_REFUSALS: u64 = 3;
+
+/// What was last written of each part.
+pub struct Transcript {
+    shown: Vec<(&'static str, Vec<u64>)>,
+}
+
+impl Transcript {
+    pub fn new(start: &Lent) -> Transcript {
+        Transcript {
+            shown: parts(start),
+        }
+    }
+
+    pub fn write(&mut self, answer: &Answer, now: &Lent, text: &mut String) {
+        write_answer(answer, now, text);
+        if answer.steps != 0 {
+            // The answer's line has pc and clk.
+            let (_, state) = &mut self.shown[1];
+            state[..2].copy_from_slice(&[now.machine.pc, now.machine.clk]);
+        }
+        let now = parts(now);
+        for ((name, shown), (_, now)) in self.shown.iter().zip(&now) {
+            let places = shown.iter().zip(now).enumerate();
+            let changes: String = places
+                .filter(|(_, (shown, now))| shown != now)
+                .map(|(place, (_, now))| format!(" {place:x}={now:x}"))
+                .collect();
+            if !changes.is_empty() {
+                writeln!(text, "{name}{changes}").unwrap();
+            }
+        }
+        self.shown = now;
+    }
+}
+
+fn parts(lent: &Lent) -> Vec<(&'static str, Vec<u64>)> {
+    let machine = &lent.machine;
+    let registers = [&machine.registers[..], &[lent.register_taints]].concat();
+    let state = [
+        &[machine.pc, machine.clk, machine.psp],
+        &machine.storage_addr[..],
+    ]
+    .concat();
+    let used = vec![machine.cell_count, machine.tape_count, machine.output_count];
+    vec![
+        ("registers", registers),
+        ("state", state),
+        ("used", used),
+        ("addresses", lent.addresses.clone()),
+        ("numbers", lent.numbers.clone()),
+        ("marks", lent.taints.clone()),
+        ("tape", lent.tape.clone()),
+        ("output", lent.output.clone()),
+    ]
+}
+
+/// The first line that `solve` would print, and the callee.
+fn write_answer(answer: &Answer, now: &Lent, text: &mut String) {
+    let is_refused = answer.refused == 1;
+    let kilosteps = (now.machine.clk as u128 + 500) / 1000;
+    match is_refused {
+        true => write!(text, "{}", answer.number).unwrap(),
+        false => write!(text, "e{}", answer.number).unwrap(),
+    }
+    if is_refused && answer.number <= ENTRY_REFUSALS {
+        text.push_str(" 0 0 0 0");
+    } else {
+        let (pc, clk) = (now.machine.pc, now.machine.clk);
+        write!(text, " {:x} {pc:x} {clk:x} {kilosteps:x}", answer.steps).unwrap();
+    }
+    if is_refused && answer.number == 2 {
+        write!(text, " {:x}", answer.frame).unwrap();
+    }
+    text.push('\n');
+    if !is_refused && matches!(answer.number, 1 | 2) {
+        let [a, b, c, d] = answer.callee;
+        writeln!(text, "callee {a:x} {b:x} {c:x} {d:x}").unwrap();
+    }
+}
