@@ -33,8 +33,8 @@ def steps_of(name):
     """Each single step: its run, the first word of the instruction that it came to, if any, and its answer."""
     _, cases = vectors.read_cases(name)
     for case, answers in zip(cases, vectors.read_answers(name)):
-        starts = instruction_starts(program_words(case))
-        first_pc = start_pc(case)
+        starts = instruction_starts(program_words(case.lines))
+        first_pc = start_pc(case.lines)
         pc, run = first_pc, ""
         for call in answers.calls:
             if call.run != run:
@@ -45,9 +45,9 @@ def steps_of(name):
                 pc = int(fields[2], 16)
 
 
-def program_words(case):
+def program_words(lines):
     words = []
-    for line in case:
+    for line in lines:
         fields = line.split(" ")
         if fields[0] == "words":
             words += [int(field, 16) for field in fields[1:]]
@@ -60,8 +60,8 @@ def program_words(case):
     return words
 
 
-def start_pc(case):
-    states = [line.split(" ") for line in case if line.startswith("state ")]
+def start_pc(lines):
+    states = [line.split(" ") for line in lines if line.startswith("state ")]
     return int(states[-1][1], 16) if states else 0
 
 
@@ -134,7 +134,7 @@ def kinds_table(steps):
 
 
 def refusal_of(given, name):
-    return given[f"case {name}"].calls[0].lines[0].split(" ")[0]
+    return given[f"case refusal: {name}"].calls[0].lines[0].split(" ")[0]
 
 
 def order_table(given):
@@ -161,8 +161,8 @@ def sinks_table(given):
     print("\n## Marks\n\nWhat one marked thing does to a step that passes: it is refused 18, or other marks stand afterwards.")
     rows = []
     for opcode in OPCODES:
-        answers = {what: given[f"case {opcode}, {what} marked"].calls[0].lines for what in marks.THINGS}
-        unmarked = marks_written(given[f"case {opcode}, nothing marked"].calls[0].lines)
+        answers = {what: given[f"case mark: {opcode}, {what} marked"].calls[0].lines for what in marks.THINGS}
+        unmarked = marks_written(given[f"case mark: {opcode}, nothing marked"].calls[0].lines)
         sinks = [what for what, lines in answers.items() if lines[0].startswith("18 ")]
         moved = [what for what, lines in answers.items() if what not in sinks and marks_written(lines) != unmarked]
         rows.append([opcode, ", ".join(sinks), ", ".join(moved)])

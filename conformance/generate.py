@@ -14,32 +14,33 @@ HEAD = f"""\
 # Its last two parts are drawn by SplitMix64 from the seed {SEED:x}.
 """
 
+# What a case's name begins with, what the part has, and its cases.
 PARTS = [
-    ("What each opcode gives.", values.cases),
-    ("Each opcode with each kind of operand in each place.", kinds.cases),
-    ("Each refusal of a step, and each two that can meet.", refusals.cases),
-    ("Marks: where they go, and which uses are refused.", marks.cases),
-    ("The regions' edges.", regions.cases),
-    ("Buffers just long enough, and one too short.", capacities.cases),
-    ("The clock's end and the budget's.", clocks.cases),
-    ("What is refused before a step.", entry.cases),
+    ("value", "What each opcode gives.", values.cases),
+    ("kind", "Each opcode with each kind of operand in each place.", kinds.cases),
+    ("refusal", "Each refusal of a step, and each two that can meet.", refusals.cases),
+    ("mark", "Marks: where they go, and which uses are refused.", marks.cases),
+    ("region", "The regions' edges.", regions.cases),
+    ("capacity", "Buffers just long enough, and one too short; what stands in unused places.", capacities.cases),
+    ("clock", "The clock's end and the budget's.", clocks.cases),
+    ("entry", "What is refused before a step.", entry.cases),
 ]
-DRAWN_PARTS = [("Steps, drawn.", steps.cases), ("Programs, drawn.", programs.cases)]
+DRAWN_PARTS = [("step", "Steps, drawn.", steps.cases), ("program", "Programs, drawn.", programs.cases)]
 
 
 def main():
     random = SplitMix64(SEED)
     sys.stdout.write(HEAD)
-    for title, cases in PARTS:
-        write(title, cases())
-    for title, cases in DRAWN_PARTS:
-        write(title, cases(random))
+    for part, title, cases in PARTS:
+        write(part, title, cases())
+    for part, title, cases in DRAWN_PARTS:
+        write(part, title, cases(random))
 
 
-def write(title, cases):
+def write(part, title, cases):
     sys.stdout.write(f"\n# {title}\n")
     for case in cases:
-        sys.stdout.write(case.write())
+        sys.stdout.write(case.write(part))
 
 
 main()

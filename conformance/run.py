@@ -12,57 +12,74 @@ MOST_SHOWN = 12
 
 
 def main():
-    parser = argparse.ArgumentParser(
-        description="Checks an implementation of the step machine. The command reads cases on standard input and writes what it did with"
-        " them on standard output, as FORMAT.md says."
-    )
-    parser.add_argument("--only", metavar="NAME", choices=vectors.NAMES, help="one of: " + ", ".join(vectors.NAMES))
-    parser.add_argument("command", nargs=argparse.REMAINDER, metavar="COMMAND", help="the implementation, with its arguments")
-    options = parser.parse_args()
-    if not options.command:
-        parser.error("no COMMAND")
+    options = arguments()
     passed, failed = 0, 0
     for name in [options.only] if options.only else vectors.NAMES:
-        difference = first_difference if failed == 0 else None
-        good, bad = check(name, options.command, difference)
-        print(f"{name}: {good} passed, {bad} failed", flush=True)
-        passed, failed = passed + good, failed + bad
+        good, differences = check(name, options)
+        for number, show in enumerate(differences):
+            if options.all or failed + number == 0:
+                show()
+        print(f"{name}: {good} passed, {len(differences)} failed", flush=True)
+        passed, failed = passed + good, failed + len(differences)
     print(f"{passed} passed, {failed} failed")
     sys.exit(0 if failed == 0 else 1)
 
 
-def check(name, command, show):
-    """How many cases of a file pass and how many do not; the first that does not is shown."""
+def arguments():
+    parser = argparse.ArgumentParser(
+        description="Checks an implementation of the step machine. The command reads cases on standard input and writes what it did with"
+        " them on standard output, as FORMAT.md says. The first difference is shown, step by step."
+    )
+    parser.add_argument("--only", metavar="NAME", choices=vectors.NAMES, help="one of: " + ", ".join(vectors.NAMES))
+    parser.add_argument("--all", action="store_true", help="show every case that fails, not only the first")
+    parser.add_argument("--seconds", type=int, default=600, metavar="N", help="how long a file of vectors may take; by default 600")
+    parser.add_argument("command", nargs=argparse.REMAINDER, metavar="COMMAND", help="the implementation, with its arguments")
+    options = parser.parse_args()
+    if not options.command:
+        parser.error("no COMMAND")
+    return options
+
+
+def check(name, options):
+    """How many cases of a file pass, and for each difference what shows it."""
     data, cases = vectors.read_cases(name)
     expected = vectors.read_answers(name)
-    given = vectors.parse_answers(run(command, data))
-    at, bad = 0, 0
+    written, trouble = run(options, data)
+    given, before = vectors.parse_answers(written)
+    differences = [(lambda what=what: print(f"In {name}: {what}.\n")) for what in trouble]
+    if before:
+        differences.append(lambda: print(f"In {name}: before the first case is written {before[0]!r}.\n"))
+    at, good = 0, 0
     for case, wanted in zip(cases, expected):
-        found = given[at] if at < len(given) and given[at].name == wanted.name else None
-        at += found is not None
+        found = given[at] if at < len(given) else None
+        at += found is not None and found.name == wanted.name
         if found == wanted:
-            continue
-        if bad == 0 and show:
-            show(name, case, wanted, found)
-        bad += 1
-    return len(expected) - bad, bad
+            good += 1
+        else:
+            differences.append(lambda case=case, wanted=wanted, found=found: show(name, case, wanted, found))
+    if at < len(given):
+        differences.append(lambda: print(f"In {name}: {given[at].name!r} is written where it does not belong.\n"))
+    return good, differences
 
 
-def run(command, data):
+def run(options, data):
+    """What the command writes, and what else is wrong with it."""
     try:
-        done = subprocess.run(command, input=data, stdout=subprocess.PIPE, check=False)
+        done = subprocess.run(options.command, input=data, stdout=subprocess.PIPE, timeout=options.seconds, check=False)
     except OSError as error:
-        sys.exit(f"{command[0]} cannot be run: {error.strerror}")
-    if done.returncode != 0:
-        print(f"{' '.join(command)} ended with {done.returncode}", file=sys.stderr)
-    return done.stdout
+        sys.exit(f"{options.command[0]} cannot be run: {error.strerror}")
+    except subprocess.TimeoutExpired as expired:
+        return expired.stdout or b"", [f"the command did not end within {options.seconds} seconds"]
+    return done.stdout, [f"the command ended with status {done.returncode}"] if done.returncode else []
 
 
-def first_difference(name, case, wanted, found):
-    print(f"The first difference, in {name}:\n")
-    print("\n".join(shortened(line) for line in case))
-    if found is None:
-        print("\nNothing was written for this case, or its line is not repeated.\n")
+def show(name, case, wanted, found):
+    """A case that fails: its lines, the calls that are as expected, and the first that is not."""
+    print(f"The case in line {case.number} of vectors/{name}.cases fails:\n")
+    print("\n".join(readable(line) for line in case.lines))
+    if found is None or found.name != wanted.name:
+        instead = "the output has ended" if found is None else f"{found.name!r} is written"
+        print(f"\nIn the place of this case {instead}.\n")
         return
     same = 0
     while same < min(len(wanted.calls), len(found.calls)) and wanted.calls[same] == found.calls[same]:
@@ -84,18 +101,19 @@ def first_difference(name, case, wanted, found):
 def title(calls, index):
     """Which call of which run it is."""
     call = calls[index]
-    if call.lines[0].startswith("run "):
-        return f"{call.run}, in one call"
+    if call.lines and call.lines[0].startswith("run "):
+        return f"{readable(call.run)}, in one call"
     steps = [other for other in calls[: index + 1] if other.run == call.run]
-    return f"{call.run}, step {len(steps)}"
+    return f"{readable(call.run)}, step {len(steps)}"
 
 
 def print_lines(call):
-    print("\n".join("  " + shortened(line) for line in call.lines))
+    print("\n".join("  " + readable(line) for line in call.lines or ["nothing"]))
 
 
-def shortened(line):
-    return line if len(line) <= 400 else line[:400] + " ..."
+def readable(line):
+    """A line of what may be anything: control characters are shown as such."""
+    return "".join(character if character.isprintable() else repr(character)[1:-1] for character in line)
 
 
 main()

@@ -12,6 +12,13 @@ NAMES = ["worked", "replayed", "generated"]
 ANSWER = re.compile(r"(run )?(e[0-3]|[0-9]+)( [0-9a-f]+)+$")
 
 
+class Case(NamedTuple):
+    """A case: the number of its first line in the file, and its lines, comments too."""
+
+    number: int
+    lines: list
+
+
 class Call(NamedTuple):
     """A call: the line plain or guarded that it belongs to, and the lines written for it, its answer first."""
 
@@ -27,36 +34,39 @@ class Answers(NamedTuple):
 
 
 def read_cases(name):
-    """The cases' file, and the lines of each case."""
+    """The cases' file, and each case."""
     data = (FOLDER / f"{name}.cases").read_bytes()
     cases = []
-    for line in lines_of(data):
+    for number, line in enumerate(lines_of(data), 1):
         if line.startswith("case "):
-            cases.append([])
-        if cases and line and not line.startswith("#"):
-            cases[-1].append(line)
+            cases.append(Case(number, []))
+        if cases and line:
+            cases[-1].lines.append(line)
     return data, cases
 
 
 def read_answers(name):
-    return parse_answers((FOLDER / f"{name}.answers").read_bytes())
+    answers, _ = parse_answers((FOLDER / f"{name}.answers").read_bytes())
+    return answers
 
 
 def parse_answers(data):
-    answers, run = [], ""
+    """What was written for each case, and the lines that stand before the first."""
+    answers, before, run = [], [], ""
     for line in lines_of(data):
         if line.startswith("case "):
             answers.append(Answers(line, []))
             run = ""
         elif not answers:
-            continue
+            before.append(line)
         elif line.startswith(("plain", "guarded")):
             run = line
-        elif ANSWER.match(line) or not answers[-1].calls or answers[-1].calls[-1].run != run:
-            answers[-1].calls.append(Call(run, [line]))
-        else:
+            answers[-1].calls.append(Call(run, []))
+        elif answers[-1].calls and (not ANSWER.match(line) or not answers[-1].calls[-1].lines):
             answers[-1].calls[-1].lines.append(line)
-    return answers
+        else:
+            answers[-1].calls.append(Call(run, [line]))
+    return answers, before
 
 
 def lines_of(data):

@@ -34,10 +34,28 @@ def cases():
             words = frame("TSTORE", immediate(10), immediate(2))
             yield case(f"TSTORE of 2, free tape: {free}, free output: {other}", words, tape_free=free, output_free=other)
     for free in (0, 11, 12, 13):
-        for op1 in (0, 1, 2):
+        for op1 in (0, 1, 2, 0x100000001):
             words = frame("SCCALL", immediate(10), immediate(op1))
-            yield case(f"SCCALL with {op1}, free tape: {free}", words, tape_free=free, output_free=0)
+            yield case(f"SCCALL with {op1:x}, free tape: {free}", words, tape_free=free, output_free=0)
     yield from tape_reads()
+    yield from unused_places()
+
+
+def unused_places():
+    """What stands behind the counts is no cell and no value."""
+    addresses = sorted(CELLS) + [30, 31, 32, 33]
+    numbers = [CELLS[address] for address in sorted(CELLS)] + [1, 2, 3, 4]
+    for name, words in (
+        ("MLOAD", frame("MLOAD", immediate(30), immediate(0), register(1))),
+        ("MSTORE", frame("MSTORE", immediate(30), immediate(0), register(3))),
+        ("TSTORE", frame("TSTORE", immediate(30), immediate(2))),
+        ("SCCALL", frame("SCCALL", immediate(30), immediate(0))),
+        ("TLOAD", frame("TLOAD", immediate(1), immediate(3), immediate(30))),
+        ("TLOAD of a value", frame("TLOAD", immediate(0), immediate(3), immediate(20))),
+    ):
+        unused = case(f"{name}, unused places", words, cells_free=4)
+        unused.damage = {"addresses": addresses, "numbers": numbers, "tape": [0x51, 0x52, 0x53, 0x54]}
+        yield unused
 
 
 def tape_reads():

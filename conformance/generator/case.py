@@ -56,8 +56,8 @@ class Case:
     def is_guarded(self):
         return any(run == "guarded" for run, _ in self.runs)
 
-    def write(self):
-        text = f"\ncase {self.name}\n"
+    def write(self, part):
+        text = f"\ncase {part}: {self.name}\n"
         if self.words is not None:
             text += numbers_line("words", self.words)
         for line in self.text or []:

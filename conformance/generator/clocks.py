@@ -28,6 +28,8 @@ def cases():
                     cells={1: 0xA1, 2: 0xA2, 3: 0xA3, 4: 0xA4},
                     runs=[("plain", budget)],
                 )
+    for budget in (1 << 32, MAX):
+        yield Case(f"two MOVs, then END, budget {budget:x}", MOVES + LASTS["END"], runs=[("plain", budget)])
     for opcode in OPCODES:
         for budget in (0, 1, 2):
             case = passing(f"{opcode} at the clock's end, budget {budget}", opcode)

@@ -1,6 +1,6 @@
 """Where marks go, and which uses of a marked number are refused: each opcode with one thing marked at a time, and with all of them."""
 
-from .frames import OPCODES, factor, immediate, offset, register
+from .frames import OPCODES, PLACES, factor, immediate, offset, register
 from .passing import CELLS, OPERANDS, passing
 
 # What the passing steps read, overwrite or leave alone, each with its register or cell.
@@ -24,6 +24,7 @@ def cases():
         for what, marked in THINGS.items():
             yield guarded(passing(f"{opcode}, {what} marked", opcode), **marked)
     yield from other_kinds()
+    yield from ignored()
     yield from overwritten()
 
 
@@ -33,6 +34,15 @@ def other_kinds():
         for opcode in ("ADD", "EQ", "NOT", "MOV", "AND", "MLOAD", "RC"):
             operands = {**OPERANDS[opcode], "op1": operand}
             yield guarded(passing(f"{opcode}, op1 of kind {operand.kind}, r4 marked", opcode, operands), [4])
+
+
+def ignored():
+    """A marked register in a place that the opcode does not read."""
+    for opcode in OPCODES:
+        for place in PLACES:
+            if place not in OPERANDS[opcode] and (opcode, place) != ("JMP", "op0"):
+                operands = {**OPERANDS[opcode], place: register(5)}
+                yield guarded(passing(f"{opcode}, {place} ignored and marked", opcode, operands), [5])
 
 
 def overwritten():

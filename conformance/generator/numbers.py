@@ -14,8 +14,8 @@ MOST_VALUES = 4096
 # Numbers beside those at which an operation changes its mind.
 EDGES = [0, 1, 2, 0xFFFFFFFE, 0xFFFFFFFF, 0x100000000, P - 1, P, P + 1, MAX]
 
-# Where a region begins or ends.
-REGION_EDGES = [0, STACK_END, HEAP_END, P, WORD]
+# Where a region begins or ends; 2^64 is 0 again.
+REGION_EDGES = [0, STACK_END, HEAP_END, P]
 
 
 class SplitMix64:

@@ -73,7 +73,7 @@ def case(random, index):
     as_text = random.one_in(3)
     cells = {address: random.pick([random.below(16), random.word() % P]) for address in range(12)}
     case = Case(
-        f"program {index}",
+        str(index),
         None if as_text else [word for words in frames for word in words],
         [line(words) for words in frames] if as_text else None,
         registers={**{place: random.below(8) for place in range(WORKED)}, ONE: 1, HEAP: 0xFFFFFFFD00000003, 9: 12},

@@ -25,13 +25,11 @@ def instructions():
 
 
 def cases():
+    addresses = sorted({(edge + distance) % WORD for edge in REGION_EDGES for distance in range(-5, 3)})
     for name, words in instructions():
-        for edge in REGION_EDGES:
-            for address in range(edge - 5, edge + 3):
-                address %= WORD
-                yield Case(
-                    f"{name}, {address:x}", words, registers={1: address, 3: 0x33, 9: address}, cells=dict(CELLS), tape=list(TAPE)
-                )
+        for address in addresses:
+            registers = {1: address, 3: 0x33, 9: address}
+            yield Case(f"{name}, {address:x}", words, registers=registers, cells=dict(CELLS), tape=list(TAPE))
     yield from long_spans()
 
 

@@ -42,7 +42,7 @@ def case(random, index):
         operands[0] = ABSENT
     held = {address: min(value, P) for address, value in cells(random).items()}
     case = Case(
-        f"step {index}: {opcode}",
+        f"{index}, {opcode}",
         frame(opcode, *operands),
         registers={place: number(random) for place in range(10)},
         cells=held,

@@ -1,12 +1,11 @@
--- What an answer says (`element`, `none`), when there is one, and that sums, products and complements are elements.
+-- What an answer says (`element`, `none`), and when there is one.
 use mathlib.Core.Path.{_≡_, refl, sym, ap, ap₂}
 use mathlib.Core.Bool.{Bool, true, false, _&&_}
-use Prim.Native.Nat.{ℕ, _+_, _*_, _<_, _≤_}
-use native.Mathlib.Nat.{mod-lt}
+use Prim.Native.Nat.{ℕ, _<_, _≤_}
 use native.Mathlib.Omega.{arith}
 use borrow.Author.Tests.{lt-ltb, le-ltb, ltb-true}
 use Rattle.rules.specs.Numbers.{p}
-use Rattle.rules.specs.Field.{isElement, fieldAdd, fieldMul, fieldComplement}
+use Rattle.rules.specs.Field.{isElement}
 use Rattle.goldilocks.specs.declared.GoldilocksField.{GoldilocksField}
 use Rattle.goldilocks.specs.declared.FieldElement.{FieldElement}
 use Rattle.goldilocks.specs.declared.FieldElement.the-variants.{Element, NotInField}
@@ -59,15 +58,3 @@ module _ (f : ℕ → ℕ → ℕ) (a b : ℕ) where
 
   pub second-none : (x : GoldilocksField) → made a ≡ Element x → made b ≡ NotInField → NotInField ≡ elementWhere (isElement a && isElement b) (f a b)
   second-none x e d = rw (element (isElement a) a x e .0, none (isElement b) b d)
-
-pub add-lt : (a b : ℕ) → fieldAdd a b < p
-unfolding p
-add-lt a b = mod-lt (a + b) (omega arith)
-
-pub mul-lt : (a b : ℕ) → fieldMul a b < p
-unfolding p
-mul-lt a b = mod-lt (a * b) (omega arith)
-
-pub complement-lt : (a : ℕ) → fieldComplement a < p
-unfolding p
-complement-lt a = omega arith

@@ -2,4 +2,3 @@
 pub mod Remainders
 pub mod Halves
 pub mod Elements
-pub mod Requires

@@ -40,9 +40,6 @@ absent-get {A} c a e = go (get c a) (present-has c a ∙ e)
     go absent e = refl
     go (present v) e = absurd (false-true (sym e))
 
-pub absent-has : {A : Type 0} (c : Cells A) (a : ℕ) → get c a ≡ absent → has (addresses c) a ≡ false
-absent-has c a e = sym (present-has c a) ∙ ap isPresent e
-
 -- what is present stands at the address's rank
 pub present-get : (n : ℕ) (c : Cells ℕ) (a : ℕ) → risingFrom n (addresses c) ≡ true → has (addresses c) a ≡ true
     → get c a ≡ present (getD (contents c) (rank (addresses c) a) 0)

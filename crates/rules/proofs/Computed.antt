@@ -31,11 +31,3 @@ from f i (suc n) t (suc k) h =
 
 pub at : (f : ℕ → Bool) (n : ℕ) → T (every f 0 n) → (k : ℕ) → k < n → T (f k)
 at f n t k h = subst (λ (m : ℕ). T (f m)) (zero-add k) (from f 0 n t k h)
-
--- where one test passes, another does
-abbrev pub imp : Bool → Bool → Bool
-imp true b = b
-imp false b = true
-
-pub imp-at : (f g : ℕ → Bool) (n : ℕ) → T (every (λ k. imp (f k) (g k)) 0 n) → (k : ℕ) → k < n → f k ≡ true → T (g k)
-imp-at f g n t k h e = subst (λ (b : Bool). T (imp b (g k))) e (at (λ (j : ℕ). imp (f j) (g j)) n t k h)

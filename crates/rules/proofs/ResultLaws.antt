@@ -30,10 +30,6 @@ pub pass-bind : {A B : Type 0} {r : Result A} {a : A} (k : A → Result B) {b : 
 unfolding bind
 pass-bind k e h = rw e h
 
-pub bind-step : {A B : Type 0} {r : Result A} {a : A} (k : A → Result B) → r ≡ pass a → bind r k ≡ k a
-unfolding bind
-bind-step k e = rw e
-
 pub after-step : {A B : Type 0} {r : Result A} {a : A} (k : A → TaintedResult B) → r ≡ pass a → after r k ≡ k a
 unfolding after
 after-step k e = rw e
@@ -63,7 +59,3 @@ pub guard-passes : {A : Type 0} (b : Bool) (r : TaintedResult A) {a : A} → gua
 unfolding guard
 guard-passes true r h = absurd (let z : _≡_ {A = ℕ} 0 1 = cc in omega arith)
 guard-passes false r h = (refl, h)
-
-pub passes-guard : {A : Type 0} {b : Bool} {r : TaintedResult A} {a : A} → b ≡ false → r ≡ passes a → guard b r ≡ passes a
-unfolding guard
-passes-guard e h = rw e h

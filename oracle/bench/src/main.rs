@@ -4,6 +4,7 @@ mod chart;
 mod contenders;
 mod entry;
 mod growth;
+mod interface;
 mod lent;
 mod programs;
 mod stack;
@@ -19,12 +20,12 @@ use std::thread;
 const HELP: &str = "\
 usage: bench [--only PART] [--plot FILE]
 
-  --only PART  only one of the parts: steps, entry, growth, stack
+  --only PART  only one of the parts: steps, entry, interface, growth, stack
   --plot FILE  writes the part growth into FILE too, as a picture (SVG)
   --help       prints this
 ";
 
-const PARTS: [&str; 4] = ["steps", "entry", "growth", "stack"];
+const PARTS: [&str; 5] = ["steps", "entry", "interface", "growth", "stack"];
 
 struct Options {
     only: Option<String>,
@@ -72,6 +73,12 @@ fn measure(options: &Options) -> Result<(), String> {
         println!(
             "## Entry\n\nNanoseconds a call with budget 1.\n\n{}",
             entry::table()
+        );
+    }
+    if wanted("interface") {
+        println!(
+            "## Interface\n\nNanoseconds a call.\n\n{}",
+            interface::table()
         );
     }
     if wanted("growth") {

@@ -1,6 +1,7 @@
-//! Calls with damaged states, words and texts, in fenced buffers: what they answer and leave is what the model of the entry says.
+//! Calls with damaged states, words and texts, in fenced buffers: what they answer and leave is what the model of the entry says, and the
+//! check alone says what the call is refused with.
 
-use ola_library::{Answer, Lent, Program};
+use ola_library::{check, check_tainted, Answer, Lent, Program};
 use oracle::frames::Frame;
 use oracle::splitmix::SplitMix64;
 
@@ -14,6 +15,15 @@ use crate::progress::Progress;
 use crate::tables::{grouped, head, row};
 
 const MOST_STEPS: u64 = 50;
+
+/// What a check answers where a run would begin: e3 after no step.
+const PASSED: Answer = Answer {
+    refused: 0,
+    number: 3,
+    steps: 0,
+    frame: 0,
+    callee: [0; 4],
+};
 
 /// The forms of a program.
 #[derive(Debug, Clone, Copy, PartialEq, Eq)]
@@ -147,6 +157,19 @@ fn predicted_call(
     }
     let predicted = predict(program, start, run);
     predicted.holds(&answer, &fenced.lent())?;
+    let checked = match run {
+        Run::Plain => check(program, start),
+        Run::Tainted => check_tainted(program, start),
+    };
+    let expected = match predicted.reason {
+        Some(_) => answer,
+        None => PASSED,
+    };
+    if checked != expected {
+        return Err(format!(
+            "the call answers {answer:x?}, the check alone {checked:x?}"
+        ));
+    }
     Ok((answer, predicted.reason))
 }
 

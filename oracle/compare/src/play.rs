@@ -6,7 +6,7 @@ mod transcript;
 
 use std::io::{Read, Write};
 
-use ola_library::{run, run_tainted, Answer, Lent, Program};
+use ola_library::{run, run_tainted, step, step_tainted, Answer, Lent, Program};
 
 use crate::entry::Run;
 use crate::predict::predict;
@@ -22,10 +22,17 @@ pub enum Machine {
 
 impl Machine {
     fn call(self, program: Program, lent: &mut Lent, kind: Run) -> Answer {
-        match (self, kind) {
-            (Machine::Library, Run::Plain) => run(program, lent),
-            (Machine::Library, Run::Tainted) => run_tainted(program, lent),
-            (Machine::Model, _) => {
+        match (self, kind, program) {
+            // Single steps go through the functions for one step.
+            (Machine::Library, Run::Plain, Program::Words { words, budget: 1 }) => {
+                step(words, lent)
+            }
+            (Machine::Library, Run::Tainted, Program::Words { words, budget: 1 }) => {
+                step_tainted(words, lent)
+            }
+            (Machine::Library, Run::Plain, _) => run(program, lent),
+            (Machine::Library, Run::Tainted, _) => run_tainted(program, lent),
+            (Machine::Model, ..) => {
                 let prediction = predict(program, lent, kind);
                 *lent = prediction.left;
                 prediction.answer

@@ -1,0 +1,361 @@
+//! The proved step machine for Rust: safe functions over the static library that `rt staticlib capi` writes.
+//!
+//! Each call takes what it is lent, checks it, and answers; nothing is asked of the caller. include/ola.h describes the records and the
+//! numbers of outcomes and refusals, conformance/RULES.md what the machine does.
+
+mod c;
+
+/// A machine, in the order of the record's words.
+#[repr(C)]
+#[derive(Debug, Clone, Copy, PartialEq, Eq)]
+pub struct Machine {
+    pub registers: [u64; 10],
+    pub pc: u64,
+    pub clk: u64,
+    pub psp: u64,
+    pub storage_addr: [u64; 4],
+    pub cell_count: u64,
+    pub tape_count: u64,
+    pub output_count: u64,
+}
+
+/// Where `solve` starts: everything zero and empty, the PSP of a new memory.
+impl Default for Machine {
+    fn default() -> Machine {
+        Machine {
+            registers: [0; 10],
+            pc: 0,
+            clk: 0,
+            psp: 0xFFFF_FFFE_0000_0002,
+            storage_addr: [0; 4],
+            cell_count: 0,
+            tape_count: 0,
+            output_count: 0,
+        }
+    }
+}
+
+/// An answer, in the order of the record's words.
+#[repr(C)]
+#[derive(Debug, Clone, Copy, PartialEq, Eq, Default)]
+pub struct Answer {
+    /// 0: an outcome, e0 to e3; 1: a refusal.
+    pub refused: u64,
+    pub number: u64,
+    pub steps: u64,
+    /// The malformed frame of refusal 2.
+    pub frame: u64,
+    /// The callee of e1 and e2.
+    pub callee: [u64; 4],
+}
+
+/// A program in one of its three forms.
+#[derive(Clone, Copy)]
+pub enum Program<'a> {
+    Words { words: &'a [u64], budget: u64 },
+    Text { text: &'a [u8], budget: u64 },
+    BudgetText { text: &'a [u8] },
+}
+
+/// All that is lent to a call. The plain run does not look at taints.
+#[derive(Debug, Clone, PartialEq, Eq)]
+pub struct Lent {
+    pub machine: Machine,
+    pub register_taints: u64,
+    pub addresses: Vec<u64>,
+    pub numbers: Vec<u64>,
+    pub taints: Vec<u64>,
+    pub tape: Vec<u64>,
+    pub output: Vec<u64>,
+}
+
+/// The start of `solve`, in buffers of the greatest lengths.
+impl Default for Lent {
+    fn default() -> Lent {
+        Lent {
+            machine: Machine::default(),
+            register_taints: 0,
+            addresses: vec![0; 2048],
+            numbers: vec![0; 2048],
+            taints: vec![0; 2048],
+            tape: vec![0; 4096],
+            output: vec![0; 4096],
+        }
+    }
+}
+
+/// What is lent to a call, as slices: for a caller that says itself where each of them stands.
+pub struct Slices<'a> {
+    pub machine: &'a mut Machine,
+    pub register_taints: &'a mut u64,
+    pub addresses: &'a mut [u64],
+    pub numbers: &'a mut [u64],
+    pub taints: &'a mut [u64],
+    pub tape: &'a mut [u64],
+    pub output: &'a mut [u64],
+}
+
+impl Lent {
+    fn slices(&mut self) -> Slices<'_> {
+        Slices {
+            machine: &mut self.machine,
+            register_taints: &mut self.register_taints,
+            addresses: &mut self.addresses,
+            numbers: &mut self.numbers,
+            taints: &mut self.taints,
+            tape: &mut self.tape,
+            output: &mut self.output,
+        }
+    }
+
+    /// What a program that ended hands back.
+    pub fn used_output(&self) -> &[u64] {
+        let count = self.output.len().min(self.machine.output_count as usize);
+        &self.output[..count]
+    }
+}
+
+// The functions of C take a slice as its first element's address and its length. The two macros call one of them: with a program, a
+// budget where it takes one, what is lent, by `as_ptr` or `as_mut_ptr`, and the answer's record.
+//
+// SAFETY of both: each address is that of as many elements as the length behind it says; what is written is borrowed mutably, so that
+// nothing lent overlaps it; the records have the layout of include/ola.h.
+
+macro_rules! plain {
+    ($function:ident($program:expr $(, $budget:expr)?), $lent:ident, $machine:expr, $pointer:ident, $answer:expr) => {
+        unsafe {
+            c::$function(
+                $program.as_ptr(),
+                $program.len(),
+                $($budget,)?
+                $machine,
+                $lent.addresses.$pointer(),
+                $lent.addresses.len(),
+                $lent.numbers.$pointer(),
+                $lent.numbers.len(),
+                $lent.tape.$pointer(),
+                $lent.tape.len(),
+                $lent.output.$pointer(),
+                $lent.output.len(),
+                $answer,
+            )
+        }
+    };
+}
+
+macro_rules! tainted {
+    ($function:ident($program:expr $(, $budget:expr)?), $lent:ident, $machine:expr, $pointer:ident, $answer:expr) => {
+        unsafe {
+            c::$function(
+                $program.as_ptr(),
+                $program.len(),
+                $($budget,)?
+                $machine,
+                $lent.register_taints,
+                $lent.addresses.$pointer(),
+                $lent.addresses.len(),
+                $lent.numbers.$pointer(),
+                $lent.numbers.len(),
+                $lent.taints.$pointer(),
+                $lent.taints.len(),
+                $lent.tape.$pointer(),
+                $lent.tape.len(),
+                $lent.output.$pointer(),
+                $lent.output.len(),
+                $answer,
+            )
+        }
+    };
+}
+
+/// The plain run.
+pub fn run(program: Program, lent: &mut Lent) -> Answer {
+    let mut answer = Answer::default();
+    run_slices(program, lent.slices(), &mut answer);
+    answer
+}
+
+/// The tainted run.
+pub fn run_tainted(program: Program, lent: &mut Lent) -> Answer {
+    let mut answer = Answer::default();
+    run_tainted_slices(program, lent.slices(), &mut answer);
+    answer
+}
+
+/// The plain run, in slices.
+pub fn run_slices(program: Program, lent: Slices, answer: &mut Answer) {
+    match program {
+        Program::Words { words, budget } => {
+            plain!(
+                ola_run_words(words, budget),
+                lent,
+                lent.machine,
+                as_mut_ptr,
+                answer
+            )
+        }
+        Program::Text { text, budget } => {
+            plain!(
+                ola_run_text(text, budget),
+                lent,
+                lent.machine,
+                as_mut_ptr,
+                answer
+            )
+        }
+        Program::BudgetText { text } => {
+            plain!(
+                ola_run_budget_text(text),
+                lent,
+                lent.machine,
+                as_mut_ptr,
+                answer
+            )
+        }
+    }
+}
+
+/// The tainted run, in slices.
+pub fn run_tainted_slices(program: Program, lent: Slices, answer: &mut Answer) {
+    match program {
+        Program::Words { words, budget } => {
+            tainted!(
+                ola_tainted_run_words(words, budget),
+                lent,
+                lent.machine,
+                as_mut_ptr,
+                answer
+            )
+        }
+        Program::Text { text, budget } => {
+            tainted!(
+                ola_tainted_run_text(text, budget),
+                lent,
+                lent.machine,
+                as_mut_ptr,
+                answer
+            )
+        }
+        Program::BudgetText { text } => {
+            tainted!(
+                ola_tainted_run_budget_text(text),
+                lent,
+                lent.machine,
+                as_mut_ptr,
+                answer
+            )
+        }
+    }
+}
+
+/// One plain step.
+pub fn step(words: &[u64], lent: &mut Lent) -> Answer {
+    let mut answer = Answer::default();
+    step_slices(words, lent.slices(), &mut answer);
+    answer
+}
+
+/// One tainted step.
+pub fn step_tainted(words: &[u64], lent: &mut Lent) -> Answer {
+    let mut answer = Answer::default();
+    step_tainted_slices(words, lent.slices(), &mut answer);
+    answer
+}
+
+/// One plain step, in slices.
+pub fn step_slices(words: &[u64], lent: Slices, answer: &mut Answer) {
+    plain!(
+        ola_step_words(words),
+        lent,
+        lent.machine,
+        as_mut_ptr,
+        answer
+    )
+}
+
+/// One tainted step, in slices.
+pub fn step_tainted_slices(words: &[u64], lent: Slices, answer: &mut Answer) {
+    tainted!(
+        ola_tainted_step_words(words),
+        lent,
+        lent.machine,
+        as_mut_ptr,
+        answer
+    )
+}
+
+/// What a plain run would be refused with before its first step; outcome e3 after 0 steps where it would begin. The budget does not matter.
+pub fn check(program: Program, lent: &Lent) -> Answer {
+    let mut answer = Answer::default();
+    match program {
+        Program::Words { words, .. } => {
+            plain!(
+                ola_check_words(words),
+                lent,
+                &lent.machine,
+                as_ptr,
+                &mut answer
+            )
+        }
+        Program::Text { text, .. } => {
+            plain!(
+                ola_check_text(text),
+                lent,
+                &lent.machine,
+                as_ptr,
+                &mut answer
+            )
+        }
+        Program::BudgetText { text } => {
+            plain!(
+                ola_check_budget_text(text),
+                lent,
+                &lent.machine,
+                as_ptr,
+                &mut answer
+            )
+        }
+    }
+    answer
+}
+
+/// The same for a tainted run.
+pub fn check_tainted(program: Program, lent: &Lent) -> Answer {
+    let mut answer = Answer::default();
+    match program {
+        Program::Words { words, .. } => {
+            tainted!(
+                ola_tainted_check_words(words),
+                lent,
+                &lent.machine,
+                as_ptr,
+                &mut answer
+            )
+        }
+        Program::Text { text, .. } => {
+            tainted!(
+                ola_tainted_check_text(text),
+                lent,
+                &lent.machine,
+                as_ptr,
+                &mut answer
+            )
+        }
+        Program::BudgetText { text } => {
+            tainted!(
+                ola_tainted_check_budget_text(text),
+                lent,
+                &lent.machine,
+                as_ptr,
+                &mut answer
+            )
+        }
+    }
+    answer
+}
+
+/// clk / 1000, to the nearest, half up.
+pub fn kilosteps(clk: u64) -> u64 {
+    // SAFETY: a function of a number.
+    unsafe { c::ola_kilosteps(clk) }
+}

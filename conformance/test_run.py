@@ -1,0 +1,88 @@
+#!/usr/bin/env python3
+"""Tests of the runner: implementations that go wrong in one way each."""
+
+import subprocess
+import sys
+import unittest
+from pathlib import Path
+
+HERE = Path(__file__).parent
+ANSWERS = HERE / "vectors" / "worked.answers"
+CASES = 447
+
+
+def run(change, options=()):
+    """The runner's status and lines, for an implementation that writes the stored answers after `change`, a statement about `data`."""
+    program = f"import sys; data = open({str(ANSWERS)!r}, 'rb').read(); sys.stdin.buffer.read(); status = 0; {change}; "
+    program += "sys.stdout.buffer.write(data); sys.stdout.flush(); sys.exit(status)"
+    command = [sys.executable, str(HERE / "run.py"), "--only", "worked", *options, sys.executable, "-c", program]
+    done = subprocess.run(command, stdout=subprocess.PIPE, stderr=subprocess.PIPE, check=False, text=True)
+    return done.returncode, done.stdout.splitlines()
+
+
+class Runner(unittest.TestCase):
+    def failed(self, change, count, *options):
+        """So many differences are counted; what is shown."""
+        status, lines = run(change, options)
+        self.assertEqual(status, 1)
+        self.assertTrue(lines[-1].endswith(f" passed, {count} failed"), lines[-1])
+        return "\n".join(lines)
+
+    def test_all_as_stored(self):
+        status, lines = run("pass")
+        self.assertEqual((status, lines[-1]), (0, f"{CASES} passed, 0 failed"))
+
+    def test_a_wrong_number(self):
+        shown = self.failed("data = data.replace(b'registers 2=ffffffff\\n', b'registers 2=fffffffe\\n', 1)", 1)
+        self.assertIn("case 2^32 times 2^32 gives 0xffffffff\n# MUL r0 r0 r2\n", shown)
+        self.assertIn("expected, plain 1, step 1:\n  e3 1 1 1 0\n  registers 2=ffffffff\n", shown)
+        self.assertIn("written, plain 1, step 1:\n  e3 1 1 1 0\n  registers 2=fffffffe\n", shown)
+
+    def test_only_the_first_is_shown(self):
+        wrong = "data = data.replace(b'e3 1 1 1 0', b'e3 1 1 1 1')"
+        first = self.failed(wrong, run_count("e3 1 1 1 0"))
+        every = self.failed(wrong, run_count("e3 1 1 1 0"), "--all")
+        self.assertEqual(first.count("fails:"), 1)
+        self.assertEqual(every.count("fails:"), run_count("e3 1 1 1 0"))
+
+    def test_nothing_is_written(self):
+        self.assertIn("In the place of this case the output has ended", self.failed("data = b''", CASES))
+
+    def test_the_output_breaks_off(self):
+        shown = self.failed("data = data[: data.index(b'case p + 0: 7') + 22]", CASES - 1)
+        self.assertIn("written, plain 1, step 1:\n  nothing", shown)
+
+    def test_carriage_returns(self):
+        shown = self.failed("data = data.replace(b'\\n', b'\\r\\n')", CASES + 1)
+        self.assertIn("In the place of this case 'case p-1 + 1 gives 0\\r' is written", shown)
+
+    def test_a_control_character_is_shown(self):
+        self.assertIn("  7 0 0 0 0\\r", self.failed("data = data.replace(b'7 0 0 0 0\\n', b'7 0 0 0 0\\r\\n', 1)", 1))
+
+    def test_a_status(self):
+        self.assertIn("the command ended with status 3", self.failed("status = 3", 1))
+
+    def test_something_before_the_first_case(self):
+        self.assertIn("before the first case is written 'hello'", self.failed("data = b'hello\\n' + data", 1))
+
+    def test_a_case_too_many(self):
+        self.assertIn("'case more' is written where it does not belong", self.failed("data += b'case more\\n'", 1))
+
+    def test_no_end(self):
+        shown = self.failed("import time; time.sleep(60)", CASES + 1, "--seconds", "2")
+        self.assertIn("the command did not end within 2 seconds", shown)
+
+    def test_no_such_command(self):
+        command = [sys.executable, str(HERE / "run.py"), "/no/such/command"]
+        done = subprocess.run(command, stderr=subprocess.PIPE, check=False, text=True)
+        self.assertEqual((done.returncode, done.stderr), (1, "/no/such/command cannot be run: No such file or directory\n"))
+
+
+def run_count(line):
+    """How many cases have a line."""
+    cases = ANSWERS.read_text().split("case ")
+    return sum(line in case for case in cases)
+
+
+if __name__ == "__main__":
+    unittest.main()

@@ -1,0 +1,6 @@
+#!/usr/bin/env bash
+# Proves and builds the library, builds the example and runs it.
+set -eu
+cd "$(dirname "$0")/../.."
+rt staticlib capi >&2
+exec cargo run --quiet --release --offline --manifest-path examples/rust/Cargo.toml --target-dir target/examples/rust

@@ -1,0 +1,101 @@
+//! The step machine from Rust: a solve in one call, step by step, with a pause, refused, and with a secret. Prints what
+//! examples/expected.txt has.
+
+use ola_library::{check, kilosteps, run, run_tainted, step, Answer, Lent, Machine, Program};
+
+const PAUSED: u64 = 3;
+
+/// Doubles 5, stores it in cell 3, hands it back.
+const DOUBLING: [u64; 9] = [
+    0x0000000200008804, // MOV 5 to r1
+    5,
+    0x0020080200009200, // ADD r1, r1 to r1
+    0x0010000200008a0a, // MSTORE r1 to cell r0 + 3
+    3,
+    0x0000000000000917, // TSTORE of one cell from 3
+    3,
+    1,
+    0x000000000000000b, // END
+];
+
+/// Compares a guess in r1 with a key in r2, and jumps where they are equal.
+const GUESSING: [u64; 4] = [
+    0x0020100800009202, // EQ r1, r2 to r3
+    0x0080000000000a06, // CJMP on r3 to 0
+    0,
+    0x000000000000000b, // END
+];
+
+fn main() {
+    in_one_call();
+    step_by_step();
+    with_a_pause();
+    refused();
+    with_a_secret();
+}
+
+fn doubling(budget: u64) -> Program<'static> {
+    Program::Words {
+        words: &DOUBLING,
+        budget,
+    }
+}
+
+fn in_one_call() {
+    let mut lent = Lent::default();
+    let answer = run(doubling(100), &mut lent);
+    print_answer("in one call", &answer, &lent.machine);
+    for value in lent.used_output() {
+        println!("output: {value}");
+    }
+    println!("kilosteps: {}", kilosteps(lent.machine.clk));
+}
+
+fn step_by_step() {
+    let mut lent = Lent::default();
+    loop {
+        let answer = step(&DOUBLING, &mut lent);
+        print_answer("step", &answer, &lent.machine);
+        if (answer.refused, answer.number) != (0, PAUSED) {
+            break;
+        }
+    }
+}
+
+fn with_a_pause() {
+    let mut lent = Lent::default();
+    let answer = run(doubling(2), &mut lent);
+    print_answer("paused", &answer, &lent.machine);
+    let answer = run(doubling(100), &mut lent);
+    print_answer("gone on", &answer, &lent.machine);
+}
+
+fn refused() {
+    let lent = Lent::default();
+    let text = b"000000000000000b\n0000\n";
+    let answer = check(Program::Text { text, budget: 100 }, &lent);
+    print_answer("a short line", &answer, &lent.machine);
+    println!("malformed frame: {}", answer.frame);
+}
+
+/// The comparison may be made, but no jump may depend on it.
+fn with_a_secret() {
+    let mut lent = Lent::default();
+    lent.machine.registers[1] = 7;
+    lent.machine.registers[2] = 12345;
+    lent.register_taints = 1 << 2;
+    let program = Program::Words {
+        words: &GUESSING,
+        budget: 100,
+    };
+    let answer = run_tainted(program, &mut lent);
+    print_answer("with a secret", &answer, &lent.machine);
+    println!("tainted registers: {:x}", lent.register_taints);
+}
+
+fn print_answer(what: &str, answer: &Answer, machine: &Machine) {
+    let kind = ["outcome", "refused"][answer.refused as usize];
+    let (number, steps) = (answer.number, answer.steps);
+    let (pc, clk) = (machine.pc, machine.clk);
+    println!("{what}: {kind} {number} after {steps} steps, pc {pc}, clk {clk}");
+}

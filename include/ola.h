@@ -1,0 +1,200 @@
+/* The Ola step machine, proved: its interface for C and for whatever can call C.
+ *
+ * Link with libcapi.a, which `rt staticlib capi` writes to target/staticlib. The library allocates nothing, keeps nothing between calls,
+ * reads and writes nothing but what it is lent, and uses at most 32 KB of stack. Calls on different records and buffers may run at the same time.
+ *
+ *     cc -Iinclude solve.c target/staticlib/libcapi.a
+ *
+ * The machine has ten registers, a memory, a tape and an output. A call runs a program for at most `budget` steps: it checks all that it is
+ * handed, runs, writes what is left into the same places, and fills in an answer. What a paused call leaves can be handed in again and goes on.
+ * conformance/RULES.md says what each instruction does and in which order things are refused.
+ *
+ * Example: a program as text, with its budget in the first line.
+ *
+ *     const char *text = "0000000000000064\n"                  // at most 100 steps
+ *                        "00000002000088040000000000000005\n"  // r1 = 5
+ *                        "000000000000000b\n";                 // END
+ *     static uint64_t addresses[OLA_MOST_CELLS], numbers[OLA_MOST_CELLS], tape[OLA_MOST_VALUES], output[OLA_MOST_VALUES];
+ *     ola_machine machine = OLA_START;
+ *     ola_answer answer;
+ *     ola_run_budget_text((const uint8_t *)text, strlen(text), &machine, addresses, OLA_MOST_CELLS, numbers, OLA_MOST_CELLS,
+ *                         tape, OLA_MOST_VALUES, output, OLA_MOST_VALUES, &answer);
+ *     // answer: not refused, number OLA_ENDED, 2 steps; machine.registers[1] is 5, machine.clk is 2
+ *
+ * Whatever is handed in, a call answers; there is no undefined case but these, which no function can look at:
+ * - a pointer is the address of as many elements as the length behind it says, and is not null, not even where the length is 0;
+ * - in one call no two of the things that are lent overlap.
+ */
+#ifndef OLA_H
+#define OLA_H
+
+#include <stddef.h>
+#include <stdint.h>
+
+#ifdef __cplusplus
+extern "C" {
+#endif
+
+/* Limits. More is refused: OLA_BAD_LENGTH for a program, OLA_BAD_STATE for a state. */
+#define OLA_MOST_FRAMES 512          /* instructions of a program */
+#define OLA_MOST_BYTES 65536         /* of a program as text, with its budget line */
+#define OLA_MOST_CELLS 2048          /* elements of addresses, numbers and taints */
+#define OLA_MOST_VALUES 4096         /* elements of the tape, and of the output */
+#define OLA_CLOCK_END 1000000000000u /* clk is below it where a run starts */
+
+/* The machine: 20 words of 64 bits, in this order. A call reads all of it and writes all of it. */
+typedef struct {
+    uint64_t registers[10];
+    uint64_t pc;              /* where the next instruction starts */
+    uint64_t clk;             /* steps done so far; kilosteps are made from it */
+    uint64_t psp;             /* what the operand PSP gives; never changed */
+    uint64_t storage_addr[4]; /* the contract that runs, which calls others; never changed */
+    uint64_t cell_count;      /* how much of addresses, numbers and taints is used */
+    uint64_t tape_count;      /* how much of the tape is used */
+    uint64_t output_count;    /* how much of the output is used: what a program that ended hands back */
+} ola_machine;
+
+/* Where `solve` starts: everything zero and empty, the PSP of a new memory. */
+#define OLA_START {{0}, 0, 0, 0xfffffffe00000002u, {0}, 0, 0, 0}
+
+/* The answer: 8 words of 64 bits, in this order. What an answer does not have is 0. */
+typedef struct {
+    uint64_t refused;   /* 0: `number` is an outcome; 1: it is a refusal */
+    uint64_t number;    /* one of those below */
+    uint64_t steps;     /* steps done in this call */
+    uint64_t frame;     /* of OLA_MALFORMED_FRAME: which frame, from 1; 0 is the budget line */
+    uint64_t callee[4]; /* of OLA_CALLING and OLA_DELEGATE_CALLING: whom */
+} ola_answer;
+
+/* Outcomes. */
+enum {
+    OLA_ENDED = 0,            /* the last step was END */
+    OLA_CALLING = 1,          /* the last step was SCCALL */
+    OLA_DELEGATE_CALLING = 2, /* the same with op1 = 1 */
+    OLA_PAUSED = 3            /* as many steps as the budget were done; call again to go on */
+};
+
+/* Refusals. The first three are found before any step, and such a call leaves everything as it was. A refused step leaves everything as the step
+ * before it left it, and is not counted; only the step of OLA_CLOCK_END_REACHED stands and is counted. */
+enum {
+    OLA_BAD_LENGTH = 1,        /* no frame, more than 512, or more than 65,536 bytes of text */
+    OLA_MALFORMED_FRAME = 2,   /* a frame or line is malformed */
+    OLA_BAD_STATE = 3,         /* clk, a count, a length, an address, a number or a taint is not fit */
+    OLA_NO_INSTRUCTION = 4,    /* none starts at pc */
+    OLA_UNCOVERED_OPCODE = 5,  /* POSEIDON, SLOAD, SSTORE, SIGCHECK, EVENT */
+    OLA_BAD_OPERAND = 6,       /* absent, PC, or not of the form that the opcode wants */
+    OLA_NOT_IN_FIELD = 7,      /* a number that is calculated with is not below p */
+    OLA_NOT_SMALL = 8,         /* AND, OR, XOR, GTE from 0xffffffff on; CJMP on neither 0 nor 1 */
+    OLA_ASSERT_FAILED = 9,     /* ASSERT of something else than 1 */
+    OLA_RANGE_CHECK_FAILED = 10, /* RC above 0xffffffff */
+    OLA_CELL_ABSENT = 11,      /* a cell that is read is not there */
+    OLA_SPAN_PAST_REGION = 12, /* a span that is read reaches its region's end */
+    OLA_TAPE_FAULT = 13,       /* TLOAD of what the tape does not have */
+    OLA_STORE_FAULT = 14,      /* a number above p, or an address from p on, is stored */
+    OLA_PROPHET_STORE = 15,    /* a store into the prophet region */
+    OLA_NO_CAPACITY = 16,      /* the cells, the tape or the output are full */
+    OLA_CLOCK_END_REACHED = 17, /* clk came to 10^12 */
+    OLA_TAINTED_SINK = 18      /* tainted runs only: a tainted number would decide something that can be seen */
+};
+
+/* What all calls below are handed.
+ *
+ * A program comes in one of three forms:
+ * - words: its frames as words;
+ * - text: a line for each frame, 16 hexadecimal digits for each word, each line with its line feed;
+ * - budget_text: the same after a line of 16 digits, the budget, in the place of the parameter.
+ * The buffers, each with its length in elements; their first elements are the used ones, as many as the machine's counts say:
+ * - addresses and numbers, of equal length: the present cells, in rising order of their addresses;
+ * - tape, output.
+ * A tainted run, which keeps numbers secret, has two more:
+ * - register_taints: bit r is set where register r is tainted;
+ * - taints, as long as addresses: 1 where the cell at the same place is tainted, else 0.
+ */
+
+/* The plain run. */
+void ola_run_words(const uint64_t *words, size_t words_length, uint64_t budget, ola_machine *machine,
+                   uint64_t *addresses, size_t addresses_length, uint64_t *numbers, size_t numbers_length,
+                   uint64_t *tape, size_t tape_length, uint64_t *output, size_t output_length, ola_answer *answer);
+
+void ola_run_text(const uint8_t *text, size_t text_length, uint64_t budget, ola_machine *machine,
+                  uint64_t *addresses, size_t addresses_length, uint64_t *numbers, size_t numbers_length,
+                  uint64_t *tape, size_t tape_length, uint64_t *output, size_t output_length, ola_answer *answer);
+
+void ola_run_budget_text(const uint8_t *text, size_t text_length, ola_machine *machine,
+                         uint64_t *addresses, size_t addresses_length, uint64_t *numbers, size_t numbers_length,
+                         uint64_t *tape, size_t tape_length, uint64_t *output, size_t output_length,
+                         ola_answer *answer);
+
+/* The tainted run: the plain run, which also keeps the taints and stops where a tainted number would be used at a sink. */
+void ola_tainted_run_words(const uint64_t *words, size_t words_length, uint64_t budget, ola_machine *machine,
+                           uint64_t *register_taints, uint64_t *addresses, size_t addresses_length,
+                           uint64_t *numbers, size_t numbers_length, uint64_t *taints, size_t taints_length,
+                           uint64_t *tape, size_t tape_length, uint64_t *output, size_t output_length,
+                           ola_answer *answer);
+
+void ola_tainted_run_text(const uint8_t *text, size_t text_length, uint64_t budget, ola_machine *machine,
+                          uint64_t *register_taints, uint64_t *addresses, size_t addresses_length,
+                          uint64_t *numbers, size_t numbers_length, uint64_t *taints, size_t taints_length,
+                          uint64_t *tape, size_t tape_length, uint64_t *output, size_t output_length,
+                          ola_answer *answer);
+
+void ola_tainted_run_budget_text(const uint8_t *text, size_t text_length, ola_machine *machine,
+                                 uint64_t *register_taints, uint64_t *addresses, size_t addresses_length,
+                                 uint64_t *numbers, size_t numbers_length, uint64_t *taints, size_t taints_length,
+                                 uint64_t *tape, size_t tape_length, uint64_t *output, size_t output_length,
+                                 ola_answer *answer);
+
+/* One step: a run with a budget of 1. */
+void ola_step_words(const uint64_t *words, size_t words_length, ola_machine *machine,
+                    uint64_t *addresses, size_t addresses_length, uint64_t *numbers, size_t numbers_length,
+                    uint64_t *tape, size_t tape_length, uint64_t *output, size_t output_length, ola_answer *answer);
+
+void ola_tainted_step_words(const uint64_t *words, size_t words_length, ola_machine *machine,
+                            uint64_t *register_taints, uint64_t *addresses, size_t addresses_length,
+                            uint64_t *numbers, size_t numbers_length, uint64_t *taints, size_t taints_length,
+                            uint64_t *tape, size_t tape_length, uint64_t *output, size_t output_length,
+                            ola_answer *answer);
+
+/* The entry check alone: what a run would be refused with before its first step (1, 2 or 3), or OLA_PAUSED after 0 steps where it would begin. Nothing
+ * but the answer is written. */
+void ola_check_words(const uint64_t *words, size_t words_length, const ola_machine *machine,
+                     const uint64_t *addresses, size_t addresses_length, const uint64_t *numbers,
+                     size_t numbers_length, const uint64_t *tape, size_t tape_length, const uint64_t *output,
+                     size_t output_length, ola_answer *answer);
+
+void ola_check_text(const uint8_t *text, size_t text_length, const ola_machine *machine,
+                    const uint64_t *addresses, size_t addresses_length, const uint64_t *numbers,
+                    size_t numbers_length, const uint64_t *tape, size_t tape_length, const uint64_t *output,
+                    size_t output_length, ola_answer *answer);
+
+void ola_check_budget_text(const uint8_t *text, size_t text_length, const ola_machine *machine,
+                           const uint64_t *addresses, size_t addresses_length, const uint64_t *numbers,
+                           size_t numbers_length, const uint64_t *tape, size_t tape_length, const uint64_t *output,
+                           size_t output_length, ola_answer *answer);
+
+void ola_tainted_check_words(const uint64_t *words, size_t words_length, const ola_machine *machine,
+                             uint64_t register_taints, const uint64_t *addresses, size_t addresses_length,
+                             const uint64_t *numbers, size_t numbers_length, const uint64_t *taints,
+                             size_t taints_length, const uint64_t *tape, size_t tape_length,
+                             const uint64_t *output, size_t output_length, ola_answer *answer);
+
+void ola_tainted_check_text(const uint8_t *text, size_t text_length, const ola_machine *machine,
+                            uint64_t register_taints, const uint64_t *addresses, size_t addresses_length,
+                            const uint64_t *numbers, size_t numbers_length, const uint64_t *taints,
+                            size_t taints_length, const uint64_t *tape, size_t tape_length, const uint64_t *output,
+                            size_t output_length, ola_answer *answer);
+
+void ola_tainted_check_budget_text(const uint8_t *text, size_t text_length, const ola_machine *machine,
+                                   uint64_t register_taints, const uint64_t *addresses, size_t addresses_length,
+                                   const uint64_t *numbers, size_t numbers_length, const uint64_t *taints,
+                                   size_t taints_length, const uint64_t *tape, size_t tape_length,
+                                   const uint64_t *output, size_t output_length, ola_answer *answer);
+
+/* The league's unit: clk / 1000, to the nearest, half up. */
+uint64_t ola_kilosteps(uint64_t clk);
+
+#ifdef __cplusplus
+}
+#endif
+
+#endif

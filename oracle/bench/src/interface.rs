@@ -1,0 +1,78 @@
+//! What a call of each function of the C interface costs, by the program's length: one step, in one call and in place, no step, and the
+//! check alone.
+
+use ola_library::{
+    check, check_tainted, run, run_tainted, step, step_tainted, Answer, Lent, Program,
+};
+use oracle::frames::encode;
+use oracle::state::State;
+
+use crate::lent::lent;
+use crate::programs;
+use crate::timing::{timed, Rounds, Try};
+
+const ROUNDS: usize = 101;
+const CALLS: usize = 300;
+const FRAMES: [usize; 3] = [1, 16, 512];
+
+/// A function, by its name.
+type Function = (&'static str, fn(&[u64], &mut Lent) -> Answer);
+
+const FUNCTIONS: [Function; 8] = [
+    ("plain run, budget 1", |words, lent| {
+        run(Program::Words { words, budget: 1 }, lent)
+    }),
+    ("plain step, in place", step),
+    ("plain run, budget 0", |words, lent| {
+        run(Program::Words { words, budget: 0 }, lent)
+    }),
+    ("plain check", |words, lent| {
+        check(Program::Words { words, budget: 0 }, lent)
+    }),
+    ("tainted run, budget 1", |words, lent| {
+        run_tainted(Program::Words { words, budget: 1 }, lent)
+    }),
+    ("tainted step, in place", step_tainted),
+    ("tainted run, budget 0", |words, lent| {
+        run_tainted(Program::Words { words, budget: 0 }, lent)
+    }),
+    ("tainted check", |words, lent| {
+        check_tainted(Program::Words { words, budget: 0 }, lent)
+    }),
+];
+
+pub fn table() -> String {
+    let times = FRAMES.map(measure);
+    let mut text = String::from("| call | 1 frame | 16 frames | 512 frames |\n|---|---|---|---|\n");
+    for (place, (name, _)) in FUNCTIONS.iter().enumerate() {
+        let cells = times
+            .each_ref()
+            .map(|rounds| format!("{:.0}", rounds.time(place)));
+        text += &format!("| {name} | {} |\n", cells.join(" | "));
+    }
+    text
+}
+
+fn measure(frames: usize) -> Rounds {
+    eprintln!("bench: interface, {frames} frames");
+    let words = encode(&programs::of_length(frames));
+    let start = lent(&State::default());
+    let tries = FUNCTIONS.map(|(_, function)| -> Try {
+        let (words, start) = (&words, &start);
+        Box::new(move || time(words, start, function))
+    });
+    Rounds::of(ROUNDS, &tries)
+}
+
+/// Nanoseconds a call.
+fn time(words: &[u64], start: &Lent, function: fn(&[u64], &mut Lent) -> Answer) -> f64 {
+    let mut lent = start.clone();
+    let (time, ()) = timed(|| {
+        for _ in 0..CALLS {
+            lent.machine = start.machine;
+            let answer = function(words, &mut lent);
+            assert_eq!((answer.refused, answer.number), (0, 3));
+        }
+    });
+    time / CALLS as f64
+}
