@@ -1,9 +1,11 @@
--- What a call leaves, from its parts: the machine of the record handed in, the call, and the records written afterwards.
+-- What a call leaves, and what a check answers, from their parts: the machine of the record handed in, the call, and the records written
+-- afterwards.
 use Prim.Native.Nat.{ℕ}
 use mathlib.Core.Path.{_≡_, ap, ap₂, _∙_}
 use mathlib.Core.List.{List}
 use Rattle.rules.specs.declared.Machine.{Machine}
-use Rattle.rules.specs.Answers.{meaning}
+use Rattle.rules.specs.declared.Answer.{Answer}
+use Rattle.rules.specs.Answers.{Meaning, meaning}
 use Rattle.rules.specs.Entry.{Snapshot, TaintedSnapshot}
 use Rattle.rules.specs.Calls.{Called}
 use Rattle.executor.specs.declared.Called as PlainCode
@@ -32,3 +34,18 @@ module _ {given machine₀ : Machine} {xs ns tape output xs₀ ns₀ tape₀ out
   tainted-left {ts} {ts₀} {w₀} r call e h a m =
       ap₂ (λ (a m : List ℕ). taintedBuffers a m (r .«register_taints») xs ns ts tape output) a m
       ∙ ap taintedLeft (h ∙ ap (λ (m : Machine). call (Tainted.snapshot m w₀ xs₀ ns₀ ts₀ tape₀ output₀)) e)
+
+module _ {given machine₀ : Machine} {xs₀ ns₀ tape₀ output₀ answer : List ℕ} where
+  pub plain-checked : (a : Answer) (call : Snapshot → Called Snapshot) → given ≡ machine₀
+      → meaning a ≡ call (Plain.snapshot given xs₀ ns₀ tape₀ output₀) .answer
+      → answer ≡ answerRecord (meaning a) 0
+      → answer ≡ answerRecord (call (Plain.snapshot machine₀ xs₀ ns₀ tape₀ output₀) .answer) 0
+  plain-checked a call e h r =
+      r ∙ ap (λ (m : Meaning). answerRecord m 0) (h ∙ ap (λ (m : Machine). call (Plain.snapshot m xs₀ ns₀ tape₀ output₀) .answer) e)
+
+  pub tainted-checked : {ts₀ : List ℕ} {w₀ : ℕ} (a : Answer) (call : TaintedSnapshot → Called TaintedSnapshot) → given ≡ machine₀
+      → meaning a ≡ call (Tainted.snapshot given w₀ xs₀ ns₀ ts₀ tape₀ output₀) .answer
+      → answer ≡ answerRecord (meaning a) 0
+      → answer ≡ answerRecord (call (Tainted.snapshot machine₀ w₀ xs₀ ns₀ ts₀ tape₀ output₀) .answer) 0
+  tainted-checked {ts₀} {w₀} a call e h r =
+      r ∙ ap (λ (m : Meaning). answerRecord m 0) (h ∙ ap (λ (m : Machine). call (Tainted.snapshot m w₀ xs₀ ns₀ ts₀ tape₀ output₀) .answer) e)

@@ -6,8 +6,14 @@ use native.Mathlib.Omega.{arith}
 use lib.ListN.{length, getD, take, drop}
 use lib.Seq.{drop-cons, take-all}
 use Rattle.rules.specs.declared.Machine.{Machine}
-use Rattle.rules.specs.Answers.{Meaning}
-use Rattle.capi.specs.Records.{machineOf, machineRecord, RecordsKept, answerRecord}
+use Rattle.rules.specs.declared.Answer.{Answer}
+use Rattle.rules.specs.declared.Refusal.{Refusal}
+use Rattle.rules.specs.declared.Refusal.the-variants as R
+use Rattle.rules.specs.Answers.{Meaning, refusalMeaning, meaning}
+use Rattle.report.specs.declared.label.Label.{Label}
+use Rattle.report.specs.declared.label.Label.the-variants as L
+use Rattle.report.specs.Lines.{Labels, outcome-label, refusal-label, frame-label}
+use Rattle.capi.specs.Records.{machineOf, machineRecord, RecordsKept, calleeOf, answerRecord}
 
 -- n words from a place on
 abbrev listed : ℕ → ℕ → List ℕ → List ℕ
@@ -47,6 +53,43 @@ pub records-kept : RecordsKept
 unfolding machineOf machineRecord
 records-kept r h = sym (ap machineRecord (machine-listed r h)) ∙ listed-all 20 r h
 
--- the same meaning has the same record
-pub same-record : (steps : ℕ) {m n : Meaning} → m ≡ n → answerRecord n steps ≡ answerRecord m steps
-same-record steps e = sym (ap (λ (m : Meaning). answerRecord m steps) e)
+-- the same answer has the same callee
+pub same-callee : {a known : Answer} → a ≡ known → calleeOf (meaning known) ≡ calleeOf (meaning a)
+same-callee e = sym (ap (λ (a : Answer). calleeOf (meaning a)) e)
+
+-- no refusal has a callee
+pub no-callee : (f : Refusal) → calleeOf (refusalMeaning f) ≡ 0 ∷ 0 ∷ 0 ∷ 0 ∷ []
+unfolding calleeOf refusalMeaning
+no-callee R.BadLength = refl
+no-callee (R.MalformedFrame n) = refl
+no-callee R.BadState = refl
+no-callee R.NoInstruction = refl
+no-callee R.UncoveredOpcode = refl
+no-callee R.BadOperand = refl
+no-callee R.NotInField = refl
+no-callee R.NotSmall = refl
+no-callee R.AssertFailed = refl
+no-callee R.RangeCheckFailed = refl
+no-callee R.CellAbsent = refl
+no-callee R.SpanPastRegion = refl
+no-callee R.TapeFault = refl
+no-callee R.StoreFault = refl
+no-callee R.ProphetStore = refl
+no-callee R.NoCapacity = refl
+no-callee R.ClockEnd = refl
+
+-- the record by an answer's label and callee
+abbrev recordOf : Label → ℕ → List ℕ → List ℕ
+recordOf (L.Outcome n) steps callee = 0 ∷ n ∷ steps ∷ 0 ∷ listed 0 4 callee
+recordOf (L.Refusal n) steps callee = 1 ∷ n ∷ steps ∷ 0 ∷ 0 ∷ 0 ∷ 0 ∷ 0 ∷ []
+recordOf (L.Malformed n) steps callee = 1 ∷ 2 ∷ steps ∷ n ∷ 0 ∷ 0 ∷ 0 ∷ 0 ∷ []
+
+record-of-label : (steps : ℕ) {m : Meaning} {label : Label} → Labels m label → recordOf label steps (calleeOf m) ≡ answerRecord m steps
+unfolding calleeOf answerRecord
+record-of-label steps outcome-label = refl
+record-of-label steps refusal-label = refl
+record-of-label steps frame-label = refl
+
+pub labelled : (steps : ℕ) {m : Meaning} {label known : Label} {callee : List ℕ} → Labels m label → label ≡ known → callee ≡ calleeOf m
+    → recordOf known steps callee ≡ answerRecord m steps
+labelled steps h e k = ap₂ (λ (l : Label) (vs : List ℕ). recordOf l steps vs) (sym e) k ∙ record-of-label steps h

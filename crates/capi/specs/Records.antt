@@ -32,7 +32,12 @@ machineRecord m =
 abbrev pub RecordsKept : Type 0
 RecordsKept = (r : List ℕ) → length r ≡ 20 → machineRecord (machineOf r) ≡ r
 
--- the record of an answer and its steps: 0 or 1, the number, the steps, a refusal's value, an outcome's values; 0 where there is none
+-- the four words of the callee that an outcome carries; 0 where there is none
+unfoldable pub calleeOf : Meaning → List ℕ
+calleeOf (outcome n vs) = getD vs 0 0 ∷ getD vs 1 0 ∷ getD vs 2 0 ∷ getD vs 3 0 ∷ []
+calleeOf (refusal n vs) = 0 ∷ 0 ∷ 0 ∷ 0 ∷ []
+
+-- the record of an answer and its steps: 0 or 1, the number, the steps, a refusal's value or 0, the callee
 unfoldable pub answerRecord : Meaning → ℕ → List ℕ
-answerRecord (outcome n vs) steps = 0 ∷ n ∷ steps ∷ 0 ∷ getD vs 0 0 ∷ getD vs 1 0 ∷ getD vs 2 0 ∷ getD vs 3 0 ∷ []
-answerRecord (refusal n vs) steps = 1 ∷ n ∷ steps ∷ getD vs 0 0 ∷ 0 ∷ 0 ∷ 0 ∷ 0 ∷ []
+answerRecord (outcome n vs) steps = 0 ∷ n ∷ steps ∷ 0 ∷ calleeOf (outcome n vs)
+answerRecord (refusal n vs) steps = 1 ∷ n ∷ steps ∷ getD vs 0 0 ∷ calleeOf (refusal n vs)

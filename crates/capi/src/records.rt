@@ -1,10 +1,11 @@
 // The records: a machine as 20 words, an answer as 8. specs/Records.antt has what each word is.
+use report::label::Label;
+use report::label::label_of;
 use rules::Answer;
 use rules::Machine;
-use rules::Refusal;
 ghost use mathlib.Core.Path.{_≡_};
-ghost use Rattle.rules.specs.Answers.{meaning, refusalMeaning};
-ghost use Rattle.capi.specs.Records.{machineOf, machineRecord, answerRecord};
+ghost use Rattle.rules.specs.Answers.{meaning};
+ghost use Rattle.capi.specs.Records.{machineOf, machineRecord, calleeOf, answerRecord};
 
 pub(crate) fn machine_of(words: [u64; 20]) -> Machine
     ensures { λ r. ⌜ r ≡ machineOf words ⌝ }
@@ -61,39 +62,36 @@ pub(crate) fn machine_record(machine: Machine) -> [u64; 20]
     ]
 }
 
-pub(crate) fn answer_record(answer: Answer, steps: u64) -> [u64; 8]
-    ensures { λ r. ⌜ r ≡ answerRecord (meaning answer) steps ⌝ }
+// The callee of e1 and e2; else zeros.
+fn callee_of(answer: Answer) -> [u64; 4]
+    ensures { λ r. ⌜ r ≡ calleeOf (meaning answer) ⌝ }
 {
     match answer {
-        Answer::Ended => [0, 0, steps, 0, 0, 0, 0, 0],
-        Answer::Calling(a, b, c, d) => [0, 1, steps, 0, a, b, c, d],
-        Answer::DelegateCalling(a, b, c, d) => [0, 2, steps, 0, a, b, c, d],
-        Answer::Paused => [0, 3, steps, 0, 0, 0, 0, 0],
-        Answer::Refused(refusal) => refusal_record(refusal, steps),
-        Answer::TaintedSink => [1, 18, steps, 0, 0, 0, 0, 0],
+        Answer::Ended => [0; 4],
+        Answer::Calling(a, b, c, d) => [a, b, c, d],
+        Answer::DelegateCalling(a, b, c, d) => [a, b, c, d],
+        Answer::Paused => [0; 4],
+        Answer::Refused(_) => [0; 4],
+        Answer::TaintedSink => [0; 4],
     }
 }
 
-fn refusal_record(refusal: Refusal, steps: u64) -> [u64; 8]
-    ensures { λ r. ⌜ r ≡ answerRecord (refusalMeaning refusal) steps ⌝ }
+pub(crate) fn answer_record(answer: Answer, steps: u64) -> [u64; 8]
+    ensures { λ r. ⌜ r ≡ answerRecord (meaning answer) steps ⌝ }
 {
-    match refusal {
-        Refusal::BadLength => [1, 1, steps, 0, 0, 0, 0, 0],
-        Refusal::MalformedFrame(frame) => [1, 2, steps, frame, 0, 0, 0, 0],
-        Refusal::BadState => [1, 3, steps, 0, 0, 0, 0, 0],
-        Refusal::NoInstruction => [1, 4, steps, 0, 0, 0, 0, 0],
-        Refusal::UncoveredOpcode => [1, 5, steps, 0, 0, 0, 0, 0],
-        Refusal::BadOperand => [1, 6, steps, 0, 0, 0, 0, 0],
-        Refusal::NotInField => [1, 7, steps, 0, 0, 0, 0, 0],
-        Refusal::NotSmall => [1, 8, steps, 0, 0, 0, 0, 0],
-        Refusal::AssertFailed => [1, 9, steps, 0, 0, 0, 0, 0],
-        Refusal::RangeCheckFailed => [1, 10, steps, 0, 0, 0, 0, 0],
-        Refusal::CellAbsent => [1, 11, steps, 0, 0, 0, 0, 0],
-        Refusal::SpanPastRegion => [1, 12, steps, 0, 0, 0, 0, 0],
-        Refusal::TapeFault => [1, 13, steps, 0, 0, 0, 0, 0],
-        Refusal::StoreFault => [1, 14, steps, 0, 0, 0, 0, 0],
-        Refusal::ProphetStore => [1, 15, steps, 0, 0, 0, 0, 0],
-        Refusal::NoCapacity => [1, 16, steps, 0, 0, 0, 0, 0],
-        Refusal::ClockEnd => [1, 17, steps, 0, 0, 0, 0, 0],
+    let callee = callee_of(answer);
+    match label_of(answer) {
+        Label::Outcome(number) => [
+            0,
+            number as u64,
+            steps,
+            0,
+            callee[0],
+            callee[1],
+            callee[2],
+            callee[3],
+        ],
+        Label::Refusal(number) => [1, number as u64, steps, 0, 0, 0, 0, 0],
+        Label::Malformed(frame) => [1, 2, steps, frame, 0, 0, 0, 0],
     }
 }

@@ -1,5 +1,5 @@
 // What a step does, as an action or a refusal: the actions of the opcodes, each from its operands as they were read. Nothing is written
-// here: the crate `decision` decides a whole step, and `interpreter` carries actions out.
+// here: registers, cells and tape are only read, the crate `decision` decides a whole step, and `interpreter` carries actions out.
 //
 // All functions are internal, for the crates above.
 pub mod arithmetic;

@@ -1,4 +1,4 @@
-// The tests of refusal 3 on what a caller hands in. They look at the used elements of each buffer only.
+// The tests of refusal 3 on what a caller hands in. They look at the used elements of each buffer only, and write nothing.
 //
 // Internal, for the crates above, and for any arguments: `accepts`, and `accepts_taints` for what only a tainted run has.
 use goldilocks::GoldilocksField;

@@ -1,3 +1,4 @@
 -- Laws of the calls.
 pub mod Answered
+pub mod Checking
 pub mod Solving

@@ -1,8 +1,10 @@
 // The plain machine's public functions, on programs as bare words, as text, and as text with a budget line. Each takes any arguments,
-// checks them, and answers; a call refused at entry leaves everything handed in.
+// checks them, and answers. They touch nothing but the buffers that they are lent; a call refused at entry leaves everything handed in.
+// The functions `check_..` make the entry's tests alone: they answer as a run with budget 0 does, and only read what is lent.
 use effects::Mode;
 use hardware::regions::Region;
 use hexadecimal::Put;
+use program::binary_program;
 use program::binary_program::Checked;
 use program::table;
 use program_text::LoadedJob;
@@ -11,12 +13,17 @@ use rules::Answer;
 use rules::Machine;
 use rules::Refusal;
 ghost use mathlib.Core.Path.{_≡_};
+ghost use mathlib.Core.List.{List};
 ghost use Rattle.rules.specs.declared.Answer.the-variants.{Refused};
-ghost use Rattle.rules.specs.Results.{pass};
-ghost use Rattle.rules.specs.Calls.{plainCall, plainWords, plainText, plainBudgetText};
+ghost use Rattle.rules.specs.declared.Instruction.{Instruction};
+ghost use Rattle.rules.specs.Results.{Result, pass};
+ghost use Rattle.rules.specs.Text.{loadBudgetText};
+ghost use Rattle.rules.specs.Answers.{meaning};
+ghost use Rattle.rules.specs.Calls.{jobProgram, plainCall, plainWords, plainText, plainBudgetText};
 ghost use Rattle.rules.specs.Solve.{solveStart, solve};
 ghost use Rattle.hexadecimal.specs.Writing.{Writes};
-ghost use Rattle.program.specs.Rows.{programOf};
+ghost use Rattle.program.specs.Loads.{checkedOf, checkMeaning};
+ghost use Rattle.program.specs.Rows.{programOf, EmptyRows};
 ghost use Rattle.interpreter.specs.Runs.{Loaded};
 ghost use Rattle.executor.specs.Calling.{snapshot, called};
 
@@ -41,7 +48,7 @@ fn refuse(machine: Machine, refusal: Refusal) -> Called
 // Runs a loaded program, if the state is fit.
 fn enter(
     words: &[u64],
-    rows: &[u64; 1024],
+    rows: &[u64],
     budget: u64,
     machine: Machine,
     addresses: &mut [u64],
@@ -81,6 +88,35 @@ fn enter(
     refuse(machine, Refusal::BadState)
 }
 
+// Loads a program of bare words into empty rows, and runs it.
+fn load_and_enter(
+    words: &[u64],
+    rows: &mut [u64],
+    budget: u64,
+    machine: Machine,
+    addresses: &mut [u64],
+    numbers: &mut [u64],
+    tape: &mut [u64],
+    output: &mut [u64],
+) -> Called
+    requires { ⌜ EmptyRows (now words) (now rows) ⌝ }
+    ensures { λ r. ⌜ called r (now (addresses .exit)) (now (numbers .exit)) (now (tape .exit)) (now (output .exit)) ≡ plainWords (now (words .entry)) budget (snapshot machine (now (addresses .entry)) (now (numbers .entry)) (now (tape .entry)) (now (output .entry))) ⌝ }
+{
+    match table::load_words(words, rows) {
+        Checked::Frames(_) => enter(
+            words,
+            rows,
+            budget,
+            machine,
+            addresses,
+            numbers,
+            tape,
+            output,
+        ),
+        Checked::Refused(refusal) => refuse(machine, refusal),
+    }
+}
+
 // Runs a program of bare words.
 pub fn run_words(
     words: &[u64],
@@ -93,20 +129,30 @@ pub fn run_words(
 ) -> Called
     ensures { λ r. ⌜ called r (now (addresses .exit)) (now (numbers .exit)) (now (tape .exit)) (now (output .exit)) ≡ plainWords (now (words .entry)) budget (snapshot machine (now (addresses .entry)) (now (numbers .entry)) (now (tape .entry)) (now (output .entry))) ⌝ }
 {
-    let mut rows = [0u64; 1024];
-    match table::load_words(words, &mut rows) {
-        Checked::Frames(_) => enter(
+    if words.len() <= table::SHORT_WORDS {
+        let mut rows = [0u64; table::SHORT_ROWS];
+        return load_and_enter(
             words,
-            &rows,
+            &mut rows,
             budget,
             machine,
             addresses,
             numbers,
             tape,
             output,
-        ),
-        Checked::Refused(refusal) => refuse(machine, refusal),
+        );
     }
+    let mut rows = [0u64; table::ROWS];
+    load_and_enter(
+        words,
+        &mut rows,
+        budget,
+        machine,
+        addresses,
+        numbers,
+        tape,
+        output,
+    )
 }
 
 // Takes one step of a program of bare words.
@@ -181,6 +227,73 @@ pub fn run_budget_text(
         ),
         LoadedJob::Refused(refusal) => refuse(machine, refusal),
     }
+}
+
+// The answer at entry, once the program is checked: the refusal, or e3 where all is fit.
+fn entry_answer(
+    checked: Checked,
+    machine: Machine,
+    addresses: &[u64],
+    numbers: &[u64],
+    tape: &[u64],
+    output: &[u64],
+) -> Answer
+    ensures { λ r. ⌜ ((loaded : Result (List Instruction)) → checkMeaning checked ≡ checkMeaning (checkedOf loaded) → meaning r ≡ plainCall loaded 0 (snapshot machine (now (addresses .entry)) (now (numbers .entry)) (now (tape .entry)) (now (output .entry))) .answer) ⌝ }
+{
+    match checked {
+        Checked::Frames(_) => {
+            if entry::accepts(machine, addresses, numbers, tape, output) {
+                return Answer::Paused;
+            }
+            Answer::Refused(Refusal::BadState)
+        }
+        Checked::Refused(refusal) => Answer::Refused(refusal),
+    }
+}
+
+// What a run of a program of bare words is refused with at entry; else e3.
+pub fn check_words(
+    words: &[u64],
+    machine: Machine,
+    addresses: &[u64],
+    numbers: &[u64],
+    tape: &[u64],
+    output: &[u64],
+) -> Answer
+    ensures { λ r. ⌜ meaning r ≡ plainWords (now (words .entry)) 0 (snapshot machine (now (addresses .entry)) (now (numbers .entry)) (now (tape .entry)) (now (output .entry))) .answer ⌝ }
+{
+    let checked = binary_program::check_words(words);
+    entry_answer(checked, machine, addresses, numbers, tape, output)
+}
+
+// The same of a program as text.
+pub fn check_text(
+    text: &[u8],
+    machine: Machine,
+    addresses: &[u64],
+    numbers: &[u64],
+    tape: &[u64],
+    output: &[u64],
+) -> Answer
+    ensures { λ r. ⌜ meaning r ≡ plainText (now (text .entry)) 0 (snapshot machine (now (addresses .entry)) (now (numbers .entry)) (now (tape .entry)) (now (output .entry))) .answer ⌝ }
+{
+    let checked = program_text::check_text(text);
+    entry_answer(checked, machine, addresses, numbers, tape, output)
+}
+
+// The same of a program as text with a budget line, whatever its budget.
+pub fn check_budget_text(
+    text: &[u8],
+    machine: Machine,
+    addresses: &[u64],
+    numbers: &[u64],
+    tape: &[u64],
+    output: &[u64],
+) -> Answer
+    ensures { λ r. ⌜ meaning r ≡ plainCall (jobProgram (loadBudgetText (now (text .entry)))) 0 (snapshot machine (now (addresses .entry)) (now (numbers .entry)) (now (tape .entry)) (now (output .entry))) .answer ⌝ }
+{
+    let checked = program_text::check_budget_text(text);
+    entry_answer(checked, machine, addresses, numbers, tape, output)
 }
 
 // Where `solve` starts: all zero, nothing used, the PSP of a default memory.

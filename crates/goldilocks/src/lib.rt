@@ -1,7 +1,7 @@
 // The Goldilocks field. Its elements are the numbers below the prime p = 2^64 - 2^32 + 1.
 //
 // Public, for any numbers: `GoldilocksField::from_canonical_u64`, and the functions `add`, `mul` and `complement`. The methods of the
-// same names are the crate's own, for elements that were tested.
+// same names are the crate's own, for elements that were tested. Numbers in, numbers out: nothing is touched.
 mod wide;
 
 use wide::Wide;

@@ -5,7 +5,7 @@ use mathlib.Core.Bool.{Bool, true, false}
 use mathlib.Core.List.{List}
 use native.Mathlib.Omega.{arith}
 use lib.Dec.{leb, eqb}
-use lib.ListN.{length, getD, take}
+use lib.ListN.{length, getD, set, take}
 use lib.Seq.{length-take-le, getD-take}
 use borrow.Author.Tests.{leb-true, leb-false, le-leb, lt-leb}
 use Rattle.rules.specs.Numbers.{choose, bit}
@@ -20,9 +20,10 @@ use Rattle.hardware.specs.declared.cells.Cell.the-variants as Cell
 use Rattle.hardware.specs.declared.cells.Span.the-variants as Span
 use Rattle.hardware.specs.Buffers.{rank, has, foundOf, hasAll, spanOf, missing, cellsOf, cellOf, Rising, Ordered, Holding}
 use Rattle.hardware.specs.Places.{keepOf, growOf, Within}
-use Rattle.hardware.proofs.RankLaws.{rank-length, rank-mono, has-at, has-none, last-there, there-last, missing-ranks, missing-most}
+use Rattle.hardware.proofs.RankLaws.{rank-length, rank-mono, rank-here, has-at, has-none, last-there, there-last, missing-ranks, missing-most}
 use Rattle.hardware.proofs.SpanLaws.{absent-get, present-get}
 use Rattle.hardware.proofs.PlaceLaws.{found-at, found-absent, found-below, put-addresses, put-contents, found-within}
+use Rattle.hardware.proofs.WriteLaws.{overlay-set, overlay-taken}
 
 -- Searches
 
@@ -221,3 +222,26 @@ module _ (tainted : Bool) (n : ℕ) (xs ns ts : List ℕ) (o : Ordered tainted n
             (ap (λ (f : Found). keepOf f v (take n ns)) e ∙ sym (contents-stored n xs ns (o .addresses) (o .level) a v));
         taints = k ∙ taints-stored tainted refl;
       }
+
+-- a cell that is present where it is looked for is written there
+module _ (tainted : Bool) (n : ℕ) (xs ns ts : List ℕ) (o : Ordered tainted n xs ns ts) (a v : ℕ) (t : Bool) (i : ℕ) (h : i < n) (g : getD xs i 0 ≡ a) where
+  stands : Found.At i ≡ foundOf (take n xs) a
+  stands =
+      let k : length (take n xs) ≡ n = length-take-le n xs (o .addresses .within) in
+      found-present n xs (o .addresses) a i
+      (sym (rank-here (take n xs) a i (o .addresses .rises) (omega arith) (getD-take n xs i 0 h ∙ g))) h g
+
+  pub written-holds : (s : Bool) → tainted ≡ s
+      → Holding tainted (put (cellsOf n xs ns) a v) (put (cellsOf n xs ts) a (bit t)) n xs ns ts xs (set ns i v) (choose s (set ts i (bit t)) ts)
+  written-holds s q =
+      let w : n ≤ length xs = o .addresses .within in
+      let l : length ns ≡ length xs = o .level in
+      store-holds tainted n xs ns ts o a v t (Found.At i) stands n xs (set ns i v) _
+      (sym (length-take-le n xs w), sym (overlay-taken n xs w)) (overlay-set n ns i v h (omega arith)) (rw q (go s q))
+    where
+      go : (s : Bool) → tainted ≡ s → choose s (set ts i (bit t)) ts ≡ choose s (overlay (set (take n ts) i (bit t)) ts) ts
+      go true q =
+          let w : n ≤ length xs = o .addresses .within in
+          let l : length ts ≡ length xs = o .taintLevel q in
+          overlay-set n ts i (bit t) h (omega arith)
+      go false q = refl

@@ -53,7 +53,7 @@ rank-length [] a = omega arith
 rank-length (b ∷ l) a = rank-first (ltb b a) (rank-length l a)
 
 -- a place whose address is not below has no more in front of it
-pub rank-le : (l : List ℕ) (a m : ℕ) → a ≤ getD l m 0 → rank l a ≤ m
+rank-le : (l : List ℕ) (a m : ℕ) → a ≤ getD l m 0 → rank l a ≤ m
 rank-le [] a m h = omega arith
 rank-le (b ∷ l) a zero h = rw (le-ltb b a h) (omega arith)
 rank-le (b ∷ l) a (suc m) h = rank-first (ltb b a) (rank-le l a m h)

@@ -38,6 +38,17 @@ pub enum Span {
     Absent,
 }
 
+// The place where an address stands if none is missing between the first and this one. Whether it stands there, the caller has to see.
+fn place_without_gaps(used: &[u64], address: u64) -> usize {
+    if 0 < used.len() {
+        let first = used[0];
+        if first <= address {
+            return (address - first) as usize;
+        }
+    }
+    used.len()
+}
+
 // Does the address at a place lie below another? Behind the last there is none.
 fn is_below(used: &[u64], at: usize, address: u64) -> bool
     requires { ⌜ risingFrom 0 (now used) ≡ true ⌝ }
@@ -71,21 +82,13 @@ fn rank_by_quarters(used: &[u64], address: u64) -> usize
     low
 }
 
-// The same. Where no address is missing between the first and this one, no search is needed.
+// The same. An address that stands at its place without gaps needs no search.
 fn rank_of(used: &[u64], address: u64) -> usize
     requires { ⌜ risingFrom 0 (now used) ≡ true ⌝ }
     ensures { λ r. ⌜ r ≡ rank (now (used .entry)) address ⌝ }
 {
-    if used.len() == 0 {
-        return 0;
-    }
-    let first = used[0];
-    if address <= first {
-        return 0;
-    }
-    let ahead = address - first;
-    if ahead < used.len() as u64 {
-        let at = ahead as usize;
+    let at = place_without_gaps(used, address);
+    if at < used.len() {
         if used[at] == address {
             return at;
         }
@@ -231,8 +234,8 @@ fn grow(addresses: &mut [u64], count: usize, found: Found, address: u64) -> usiz
     }
 }
 
-// Stores a number, and in a tainted run its taint; how many cells are used afterwards.
-pub fn store(
+// Stores a number, and in a tainted run its taint, where a search finds its place; how many cells are used afterwards.
+fn store_by_search(
     tainted: bool,
     addresses: &mut [u64],
     numbers: &mut [u64],
@@ -250,6 +253,43 @@ pub fn store(
     keep_taint(tainted, taints, count, found, taint);
     keep(numbers, count, found, number);
     grow(addresses, count, found, address)
+}
+
+// The same. A cell that stands at its place without gaps is written there: no search, and little enough code to be compiled into the step.
+pub fn store(
+    tainted: bool,
+    addresses: &mut [u64],
+    numbers: &mut [u64],
+    taints: &mut [u64],
+    count: usize,
+    address: u64,
+    number: u64,
+    taint: bool,
+) -> usize
+    requires { ⌜ Ordered tainted count (now addresses) (now numbers) (now taints) ⌝ }
+    requires { ⌜ Cells.count (put (cellsOf count (now addresses) (now numbers)) address number) ≤ length (now addresses) ⌝ }
+    ensures { λ r. ⌜ Holding tainted (put (cellsOf count (now (addresses .entry)) (now (numbers .entry))) address number) (put (cellsOf count (now (addresses .entry)) (now (taints .entry))) address (bit taint)) r (now (addresses .entry)) (now (numbers .entry)) (now (taints .entry)) (now (addresses .exit)) (now (numbers .exit)) (now (taints .exit)) ⌝ }
+{
+    let at = place_without_gaps(&addresses[..count], address);
+    if at < count {
+        if addresses[at] == address {
+            numbers[at] = number;
+            if tainted {
+                taints[at] = taint as u64;
+            }
+            return count;
+        }
+    }
+    store_by_search(
+        tainted,
+        addresses,
+        numbers,
+        taints,
+        count,
+        address,
+        number,
+        taint,
+    )
 }
 
 // Clears the taints of a part.
@@ -295,7 +335,7 @@ fn store_each(
     let mut used = count;
     let mut stored = 0;
     while stored < values.len() {
-        used = store(
+        used = store_by_search(
             tainted,
             addresses,
             numbers,

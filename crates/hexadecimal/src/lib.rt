@@ -1,5 +1,5 @@
-// Words as text, in the digits 0-9a-f: `digit` and `word` read, `put_shortest` and `put_16` write into a buffer that the caller lends.
-// All four are public and take any arguments; the other functions are private.
+// Words as text, in the digits 0-9a-f: `digit` and `word` read, `put_shortest` and `put_16` write into a buffer that the caller lends, and
+// touch nothing else. All four are public and take any arguments; the other functions are private.
 use rules::HexWord;
 ghost use mathlib.Core.Path.{_≡_};
 ghost use Prim.Native.Nat.{_<_};

@@ -1,7 +1,6 @@
-// What the operands of an instruction give, read from a fetched row, and the taints of registers.
+// What the operands of an instruction give, read from a fetched row, and the taints of registers. Registers, words and rows are only read.
 //
-// Internal, for the crates above: `values::{value, read_operands}`,
-// `taints::{register_taint, operand_taint, is_sink, with_taint}`.
+// Internal, for the crates above: `values::{value, read_operands}`, `taints::{register_taint, operand_taint, is_sink, with_taint}`.
 pub mod opcodes;
 pub mod taints;
 pub mod values;

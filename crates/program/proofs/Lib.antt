@@ -1,4 +1,4 @@
--- What the functions' proofs have in common, and for the crates above what follows from a fetch.
+-- What the functions' proofs have in common; for the crates above, what follows from a fetch, and how many rows are enough.
 pub mod Cases
 pub mod Bytes
 pub mod ByOpcode
@@ -10,5 +10,6 @@ pub mod Packing
 pub mod Starts
 pub mod Loading
 pub mod Checking
+pub mod RowCounts
 pub mod Laying
 pub mod Fetching

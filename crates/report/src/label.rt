@@ -6,13 +6,13 @@ ghost use Rattle.rules.specs.Answers.{meaning, refusalMeaning};
 ghost use Rattle.report.specs.Lines.{Labels, isEntryLabel};
 
 // An outcome or a refusal, by its number; refusal 2 by its frame.
-pub(crate) enum Label {
+pub enum Label {
     Outcome(u8),
     Refusal(u8),
     Malformed(u64),
 }
 
-pub(crate) fn label_of(answer: Answer) -> Label
+pub fn label_of(answer: Answer) -> Label
     ensures { λ r. ⌜ Labels (meaning answer) r ⌝ }
 {
     match answer {

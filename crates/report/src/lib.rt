@@ -1,7 +1,9 @@
-// What a caller is shown of a call: the used output, kilosteps, and the lines that `solve` prints.
+// What a caller is shown of a call: the used output, kilosteps, and the lines that `solve` prints. `print` writes into the buffer that it is
+// lent; nothing else is touched.
 //
 // Public: `used_output`, `kilosteps`, `print`.
-mod label;
+// Internal, for the crates above: `label::label_of`, the one table of numbers.
+pub mod label;
 mod lines;
 
 use hexadecimal::Put;

@@ -224,7 +224,12 @@ pub text-holds : (text : List ℕ) (budget : ℕ) → NonInterference (loadText 
 unfolding taintedText plainText
 text-holds text budget = holds (loadText text) (loadText-in-range text) budget
 
+-- a text's program with any budget, and with its own
+pub job-holds : (text : List ℕ) (budget : ℕ)
+    → NonInterference (jobProgram (loadBudgetText text)) budget (taintedCall (jobProgram (loadBudgetText text)) budget) (plainCall (jobProgram (loadBudgetText text)))
+job-holds text budget = holds (jobProgram (loadBudgetText text)) (loadBudgetText-in-range text) budget
+
 pub budget-text-holds : (text : List ℕ)
     → NonInterference (jobProgram (loadBudgetText text)) (jobBudget (loadBudgetText text)) (taintedBudgetText text) (plainCall (jobProgram (loadBudgetText text)))
 unfolding taintedBudgetText
-budget-text-holds text = holds (jobProgram (loadBudgetText text)) (loadBudgetText-in-range text) (jobBudget (loadBudgetText text))
+budget-text-holds text = job-holds text (jobBudget (loadBudgetText text))

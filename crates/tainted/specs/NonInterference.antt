@@ -3,7 +3,7 @@ use Prim.Native.Nat.{ℕ}
 use mathlib.Core.List.{List}
 use Rattle.rules.specs.Frames.{loadWords}
 use Rattle.rules.specs.Text.{loadText, loadBudgetText}
-use Rattle.rules.specs.Calls.{jobBudget, jobProgram, plainCall, plainWords, plainText, taintedWords, taintedText, taintedBudgetText}
+use Rattle.rules.specs.Calls.{jobBudget, jobProgram, plainCall, plainWords, plainText, taintedCall, taintedWords, taintedText, taintedBudgetText}
 use Rattle.rules.specs.NonInterference.{NonInterference}
 
 -- a text with a budget line has its own budget; beside it the plain calls of its program have any
@@ -13,3 +13,8 @@ pub record NonInterfering : Type 0 where
   pub runText : (text : List ℕ) (budget : ℕ) → NonInterference (loadText text) budget (taintedText text budget) (plainText text)
   pub runBudgetText : (text : List ℕ)
       → NonInterference (jobProgram (loadBudgetText text)) (jobBudget (loadBudgetText text)) (taintedBudgetText text) (plainCall (jobProgram (loadBudgetText text)))
+  -- the checks are calls with budget 0
+  pub checkWords : (words : List ℕ) → NonInterference (loadWords words) 0 (taintedWords words 0) (plainWords words)
+  pub checkText : (text : List ℕ) → NonInterference (loadText text) 0 (taintedText text 0) (plainText text)
+  pub checkBudgetText : (text : List ℕ)
+      → NonInterference (jobProgram (loadBudgetText text)) 0 (taintedCall (jobProgram (loadBudgetText text)) 0) (plainCall (jobProgram (loadBudgetText text)))

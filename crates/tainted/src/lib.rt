@@ -1,5 +1,7 @@
 // The tainted machine's public functions: the guarded run of document 01, on programs as bare words, as text, and as text with a budget
-// line. Each takes any arguments, checks them, and answers; a call refused at entry leaves everything handed in.
+// line. Each takes any arguments, checks them, and answers. They touch nothing but the buffers that they are lent; a call refused at entry
+// leaves everything handed in. The functions `check_..` make the entry's tests alone: they answer as a run with budget 0 does, and only
+// read what is lent.
 //
 // Demand 3 is `NonInterfering` (specs/NonInterference.antt, proved in proofs/NonInterferenceHolds.antt): one theorem about whole calls,
 // entry refusals included, of the definition that each function's contract names. Its three parts:
@@ -9,6 +11,7 @@
 // - 18 comes after k steps exactly where the step that follows them reaches a sink with a tainted number.
 // It says nothing of time, nor of which places of memory are touched; the number of steps is public.
 use effects::Mode;
+use program::binary_program;
 use program::binary_program::Checked;
 use program::table;
 use program_text::LoadedJob;
@@ -17,11 +20,16 @@ use rules::Answer;
 use rules::Machine;
 use rules::Refusal;
 ghost use mathlib.Core.Path.{_≡_};
+ghost use mathlib.Core.List.{List};
 ghost use Rattle.rules.specs.declared.Answer.the-variants.{Refused};
-ghost use Rattle.rules.specs.Results.{pass};
+ghost use Rattle.rules.specs.declared.Instruction.{Instruction};
+ghost use Rattle.rules.specs.Results.{Result, pass};
+ghost use Rattle.rules.specs.Text.{loadBudgetText};
+ghost use Rattle.rules.specs.Answers.{meaning};
 ghost use Rattle.rules.specs.Entry.{taintedEntry};
-ghost use Rattle.rules.specs.Calls.{taintedCall, taintedWords, taintedText, taintedBudgetText};
-ghost use Rattle.program.specs.Rows.{programOf};
+ghost use Rattle.rules.specs.Calls.{jobProgram, taintedCall, taintedWords, taintedText, taintedBudgetText};
+ghost use Rattle.program.specs.Loads.{checkedOf, checkMeaning};
+ghost use Rattle.program.specs.Rows.{programOf, EmptyRows};
 ghost use Rattle.interpreter.specs.Runs.{Loaded};
 ghost use Rattle.tainted.specs.Calling.{snapshot, called};
 
@@ -66,7 +74,7 @@ fn accepts(
 // Runs a loaded program, if the state is fit.
 fn enter(
     words: &[u64],
-    rows: &[u64; 1024],
+    rows: &[u64],
     budget: u64,
     machine: Machine,
     register_taints: u64,
@@ -116,6 +124,39 @@ fn enter(
     refuse(machine, register_taints, Refusal::BadState)
 }
 
+// Loads a program of bare words into empty rows, and runs it.
+fn load_and_enter(
+    words: &[u64],
+    rows: &mut [u64],
+    budget: u64,
+    machine: Machine,
+    register_taints: u64,
+    addresses: &mut [u64],
+    numbers: &mut [u64],
+    taints: &mut [u64],
+    tape: &mut [u64],
+    output: &mut [u64],
+) -> Called
+    requires { ⌜ EmptyRows (now words) (now rows) ⌝ }
+    ensures { λ r. ⌜ called r (now (addresses .exit)) (now (numbers .exit)) (now (taints .exit)) (now (tape .exit)) (now (output .exit)) ≡ taintedWords (now (words .entry)) budget (snapshot machine «register_taints» (now (addresses .entry)) (now (numbers .entry)) (now (taints .entry)) (now (tape .entry)) (now (output .entry))) ⌝ }
+{
+    match table::load_words(words, rows) {
+        Checked::Frames(_) => enter(
+            words,
+            rows,
+            budget,
+            machine,
+            register_taints,
+            addresses,
+            numbers,
+            taints,
+            tape,
+            output,
+        ),
+        Checked::Refused(refusal) => refuse(machine, register_taints, refusal),
+    }
+}
+
 // Runs a program of bare words.
 pub fn run_words(
     words: &[u64],
@@ -130,11 +171,11 @@ pub fn run_words(
 ) -> Called
     ensures { λ r. ⌜ called r (now (addresses .exit)) (now (numbers .exit)) (now (taints .exit)) (now (tape .exit)) (now (output .exit)) ≡ taintedWords (now (words .entry)) budget (snapshot machine «register_taints» (now (addresses .entry)) (now (numbers .entry)) (now (taints .entry)) (now (tape .entry)) (now (output .entry))) ⌝ }
 {
-    let mut rows = [0u64; 1024];
-    match table::load_words(words, &mut rows) {
-        Checked::Frames(_) => enter(
+    if words.len() <= table::SHORT_WORDS {
+        let mut rows = [0u64; table::SHORT_ROWS];
+        return load_and_enter(
             words,
-            &rows,
+            &mut rows,
             budget,
             machine,
             register_taints,
@@ -143,9 +184,21 @@ pub fn run_words(
             taints,
             tape,
             output,
-        ),
-        Checked::Refused(refusal) => refuse(machine, register_taints, refusal),
+        );
     }
+    let mut rows = [0u64; table::ROWS];
+    load_and_enter(
+        words,
+        &mut rows,
+        budget,
+        machine,
+        register_taints,
+        addresses,
+        numbers,
+        taints,
+        tape,
+        output,
+    )
 }
 
 // Takes one step of a program of bare words.
@@ -240,4 +293,114 @@ pub fn run_budget_text(
         ),
         LoadedJob::Refused(refusal) => refuse(machine, register_taints, refusal),
     }
+}
+
+// The answer at entry, once the program is checked: the refusal, or e3 where all is fit.
+fn entry_answer(
+    checked: Checked,
+    machine: Machine,
+    register_taints: u64,
+    addresses: &[u64],
+    numbers: &[u64],
+    taints: &[u64],
+    tape: &[u64],
+    output: &[u64],
+) -> Answer
+    ensures { λ r. ⌜ ((loaded : Result (List Instruction)) → checkMeaning checked ≡ checkMeaning (checkedOf loaded) → meaning r ≡ taintedCall loaded 0 (snapshot machine «register_taints» (now (addresses .entry)) (now (numbers .entry)) (now (taints .entry)) (now (tape .entry)) (now (output .entry))) .answer) ⌝ }
+{
+    match checked {
+        Checked::Frames(_) => {
+            if accepts(
+                machine,
+                register_taints,
+                addresses,
+                numbers,
+                taints,
+                tape,
+                output,
+            ) {
+                return Answer::Paused;
+            }
+            Answer::Refused(Refusal::BadState)
+        }
+        Checked::Refused(refusal) => Answer::Refused(refusal),
+    }
+}
+
+// What a run of a program of bare words is refused with at entry; else e3.
+pub fn check_words(
+    words: &[u64],
+    machine: Machine,
+    register_taints: u64,
+    addresses: &[u64],
+    numbers: &[u64],
+    taints: &[u64],
+    tape: &[u64],
+    output: &[u64],
+) -> Answer
+    ensures { λ r. ⌜ meaning r ≡ taintedWords (now (words .entry)) 0 (snapshot machine «register_taints» (now (addresses .entry)) (now (numbers .entry)) (now (taints .entry)) (now (tape .entry)) (now (output .entry))) .answer ⌝ }
+{
+    let checked = binary_program::check_words(words);
+    entry_answer(
+        checked,
+        machine,
+        register_taints,
+        addresses,
+        numbers,
+        taints,
+        tape,
+        output,
+    )
+}
+
+// The same of a program as text.
+pub fn check_text(
+    text: &[u8],
+    machine: Machine,
+    register_taints: u64,
+    addresses: &[u64],
+    numbers: &[u64],
+    taints: &[u64],
+    tape: &[u64],
+    output: &[u64],
+) -> Answer
+    ensures { λ r. ⌜ meaning r ≡ taintedText (now (text .entry)) 0 (snapshot machine «register_taints» (now (addresses .entry)) (now (numbers .entry)) (now (taints .entry)) (now (tape .entry)) (now (output .entry))) .answer ⌝ }
+{
+    let checked = program_text::check_text(text);
+    entry_answer(
+        checked,
+        machine,
+        register_taints,
+        addresses,
+        numbers,
+        taints,
+        tape,
+        output,
+    )
+}
+
+// The same of a program as text with a budget line, whatever its budget.
+pub fn check_budget_text(
+    text: &[u8],
+    machine: Machine,
+    register_taints: u64,
+    addresses: &[u64],
+    numbers: &[u64],
+    taints: &[u64],
+    tape: &[u64],
+    output: &[u64],
+) -> Answer
+    ensures { λ r. ⌜ meaning r ≡ taintedCall (jobProgram (loadBudgetText (now (text .entry)))) 0 (snapshot machine «register_taints» (now (addresses .entry)) (now (numbers .entry)) (now (taints .entry)) (now (tape .entry)) (now (output .entry))) .answer ⌝ }
+{
+    let checked = program_text::check_budget_text(text);
+    entry_answer(
+        checked,
+        machine,
+        register_taints,
+        addresses,
+        numbers,
+        taints,
+        tape,
+        output,
+    )
 }

@@ -8,29 +8,25 @@ use crate::fields::put_ten;
 use crate::fields::ten_of;
 use crate::text::TEXT_SIZE;
 use crate::text::first_bytes;
-use rules::Answer;
+use machine::Answered;
+use machine::Stepped;
+use machine::TaintedMachine;
+use machine::TaintedStepped;
 use rules::Machine;
 use tainted::Called;
 
-// The library's functions that run a program.
+// The library's functions, each plain and tainted: those that run a program, and the one that steps a record where it is kept.
 pub(crate) enum Entry {
     Words,
+    Step,
     Text,
     BudgetText,
-    TaintedWords,
-    TaintedText,
-    TaintedBudgetText,
-}
-
-// What a call answers, and its steps.
-pub(crate) struct Answered {
-    pub(crate) answer: Answer,
-    pub(crate) steps: u64,
 }
 
 // Calls from the state of some fields, and puts what the call leaves into others.
 pub(crate) fn call(
     entry: Entry,
+    is_tainted: bool,
     budget: u64,
     text: &[u8; TEXT_SIZE],
     fields: &[u64; SIZE],
@@ -52,6 +48,7 @@ pub(crate) fn call(
     let output_length = fill(&mut output, fields, fields::OUTPUT, 5);
     let called = run(
         entry,
+        is_tainted,
         budget,
         words,
         bytes,
@@ -118,6 +115,81 @@ fn put_machine(machine: Machine, fields: &mut [u64; SIZE]) {
 
 fn run(
     entry: Entry,
+    is_tainted: bool,
+    budget: u64,
+    words: &[u64],
+    text: &[u8],
+    machine: Machine,
+    register_taints: u64,
+    addresses: &mut [u64],
+    numbers: &mut [u64],
+    taints: &mut [u64],
+    tape: &mut [u64],
+    output: &mut [u64],
+) -> Called {
+    if is_tainted {
+        return run_tainted(
+            entry,
+            budget,
+            words,
+            text,
+            machine,
+            register_taints,
+            addresses,
+            numbers,
+            taints,
+            tape,
+            output,
+        );
+    }
+    with_taints(
+        run_plain(
+            entry,
+            budget,
+            words,
+            text,
+            machine,
+            addresses,
+            numbers,
+            tape,
+            output,
+        ),
+        register_taints,
+    )
+}
+
+fn run_plain(
+    entry: Entry,
+    budget: u64,
+    words: &[u64],
+    text: &[u8],
+    machine: Machine,
+    addresses: &mut [u64],
+    numbers: &mut [u64],
+    tape: &mut [u64],
+    output: &mut [u64],
+) -> executor::Called {
+    match entry {
+        Entry::Words => {
+            executor::run_words(words, budget, machine, addresses, numbers, tape, output)
+        }
+        Entry::Step => after_step(machine::lend_and_step(
+            machine,
+            words,
+            addresses,
+            numbers,
+            tape,
+            output,
+        )),
+        Entry::Text => executor::run_text(text, budget, machine, addresses, numbers, tape, output),
+        Entry::BudgetText => {
+            executor::run_budget_text(text, machine, addresses, numbers, tape, output)
+        }
+    }
+}
+
+fn run_tainted(
+    entry: Entry,
     budget: u64,
     words: &[u64],
     text: &[u8],
@@ -130,19 +202,7 @@ fn run(
     output: &mut [u64],
 ) -> Called {
     match entry {
-        Entry::Words => with_taints(
-            executor::run_words(words, budget, machine, addresses, numbers, tape, output),
-            register_taints,
-        ),
-        Entry::Text => with_taints(
-            executor::run_text(text, budget, machine, addresses, numbers, tape, output),
-            register_taints,
-        ),
-        Entry::BudgetText => with_taints(
-            executor::run_budget_text(text, machine, addresses, numbers, tape, output),
-            register_taints,
-        ),
-        Entry::TaintedWords => tainted::run_words(
+        Entry::Words => tainted::run_words(
             words,
             budget,
             machine,
@@ -153,7 +213,19 @@ fn run(
             tape,
             output,
         ),
-        Entry::TaintedText => tainted::run_text(
+        Entry::Step => after_tainted_step(machine::lend_and_step_tainted(
+            TaintedMachine {
+                machine,
+                register_taints,
+            },
+            words,
+            addresses,
+            numbers,
+            taints,
+            tape,
+            output,
+        )),
+        Entry::Text => tainted::run_text(
             text,
             budget,
             machine,
@@ -164,7 +236,7 @@ fn run(
             tape,
             output,
         ),
-        Entry::TaintedBudgetText => tainted::run_budget_text(
+        Entry::BudgetText => tainted::run_budget_text(
             text,
             machine,
             register_taints,
@@ -186,5 +258,30 @@ fn with_taints(called: executor::Called, register_taints: u64) -> Called {
         steps: called.steps,
         machine,
         register_taints,
+    }
+}
+
+// What a step leaves, as a call gives it.
+fn after_step(stepped: Stepped) -> executor::Called {
+    let answered = stepped.answered;
+    let answer = answered.answer;
+    let machine = stepped.machine;
+    executor::Called {
+        answer,
+        steps: answered.steps,
+        machine,
+    }
+}
+
+fn after_tainted_step(stepped: TaintedStepped) -> Called {
+    let answered = stepped.answered;
+    let answer = answered.answer;
+    let left = stepped.machine;
+    let machine = left.machine;
+    Called {
+        answer,
+        steps: answered.steps,
+        machine,
+        register_taints: left.register_taints,
     }
 }

@@ -1,5 +1,6 @@
 // Transcripts: cases in, what the library did with them out, in the format of conformance/FORMAT.md. A line that is not understood is
-// repeated after `? `. The programs `cases`, `replay` and `vectors` are this on three inputs.
+// repeated after `? `. The programs `cases`, `replay` and `vectors` are this on three inputs. Standard input is read, standard output
+// written; the calls are lent buffers of this crate's own.
 mod calls;
 mod fields;
 mod input;

@@ -21,11 +21,19 @@ pub(crate) fn play_case(
         return false;
     }
     let mut shown = *fields;
-    let entry = entry_of(fields, is_tainted);
+    let entry = entry_of(fields);
     let budget = budget_of(fields);
-    run(entry, budget, 1, text, fields, &mut shown);
+    run(
+        step_of(entry),
+        is_tainted,
+        budget,
+        1,
+        text,
+        fields,
+        &mut shown,
+    );
     print(b"run ");
-    run(entry, budget, budget, text, fields, &mut shown);
+    run(entry, is_tainted, budget, budget, text, fields, &mut shown);
     true
 }
 
@@ -38,30 +46,28 @@ fn budget_of(fields: &[u64; SIZE]) -> u64 {
 }
 
 // The function that takes what the case gives.
-fn entry_of(fields: &[u64; SIZE], is_tainted: bool) -> Entry {
-    let has_budget = fields[fields::BUDGET] != 0;
-    let has_words = fields[fields::WORDS] != fields::UNUSED;
-    if is_tainted {
-        if !has_budget {
-            return Entry::TaintedBudgetText;
-        }
-        if has_words {
-            return Entry::TaintedWords;
-        }
-        return Entry::TaintedText;
-    }
-    if !has_budget {
+fn entry_of(fields: &[u64; SIZE]) -> Entry {
+    if fields[fields::BUDGET] == 0 {
         return Entry::BudgetText;
     }
-    if has_words {
-        return Entry::Words;
+    if fields[fields::WORDS] == fields::UNUSED {
+        return Entry::Text;
     }
-    Entry::Text
+    Entry::Words
+}
+
+// The function that takes one step of it.
+fn step_of(entry: Entry) -> Entry {
+    match entry {
+        Entry::Words => Entry::Step,
+        _ => entry,
+    }
 }
 
 // Runs the case from its start, in calls of so many steps, and shows what each call did. With a budget of 0 there is no step.
 fn run(
     entry: Entry,
+    is_tainted: bool,
     budget: u64,
     most: u64,
     text: &[u8; TEXT_SIZE],
@@ -75,7 +81,7 @@ fn run(
     let mut next = *start;
     let mut left = budget;
     loop {
-        let answered = call(entry, most, text, &fields, &mut next);
+        let answered = call(entry, is_tainted, most, text, &fields, &mut next);
         let answer = answered.answer;
         let steps = answered.steps;
         show(answer, steps, &next, shown);

@@ -17,7 +17,7 @@ slice-aggregate-run : tie.Need-slice-aggregate-run
 slice-aggregate-run c = search needs
 
 run-requires : tie.Need-run-requires
-run-requires c κs = (c .before .before .before .before .before .before .before .before .before .before .before .before .before .before .before .before .pre, record { plain = sym (c .before .before .before .before .before .before .accepts .ensures) ∙ c .before .before .before .before .before .if1 .taken; tainted = λ t. absurd (false-true t); untainted = λ _. (refl, refl) })
+run-requires c κs = (c .before .before .before .before .before .before .before .before .before .before .before .before .before .before .before .before .before .pre, record { plain = sym (c .before .before .before .before .before .before .accepts .ensures) ∙ c .before .before .before .before .before .if1 .taken; tainted = λ t. absurd (false-true t); untainted = λ _. (refl, refl) })
 
 same-length : tie.Need-same-length
 same-length c = search needs

@@ -11,7 +11,7 @@ accepts-requires : tie.Need-accepts-requires
 accepts-requires c κs = search needs
 
 run-requires : tie.Need-run-requires
-run-requires c κs = let h = both _ (sym (c .before .before .before .before .before .before .accepts .ensures) ∙ c .before .before .before .before .before .if1 .taken) in (c .before .before .before .before .before .before .before .before .before .before .before .before .before .before .before .before .before .before .pre, record { plain = h .0; tainted = λ _. h .1; untainted = λ t. absurd (false-true (sym t)) })
+run-requires c κs = let h = both _ (sym (c .before .before .before .before .before .before .accepts .ensures) ∙ c .before .before .before .before .before .if1 .taken) in (c .before .before .before .before .before .before .before .before .before .before .before .before .before .before .before .before .before .before .before .pre, record { plain = h .0; tainted = λ _. h .1; untainted = λ t. absurd (false-true (sym t)) })
 
 same-length : tie.Need-same-length
 same-length c = search needs

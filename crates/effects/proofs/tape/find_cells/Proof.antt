@@ -7,7 +7,8 @@ use borrow.Author.Needs.{needs}
 use borrow.Author.Tests.{not-true, not-false, ltb-true, lt-ltb, le-ltb}
 use Rattle.rules.specs.Numbers.{p, wordEnd}
 use Rattle.rules.proofs.BoolLaws.{and-left}
-use Rattle.effects.proofs.Spans.{span-at, span-absent}
+use Rattle.hardware.proofs.BufferLaws.{span-at}
+use Rattle.effects.proofs.Spans.{span-absent}
 use Rattle.effects.proofs.tape.find_cells.Statement.{statement}
 use Rattle.effects.proofs.tape.find_cells.Tie as tie
 
@@ -36,7 +37,7 @@ returns-3 : tie.Need-returns-3
 unfolding p
 returns-3 c =
     let s = c .before .before .before .before .before .before .before .before .args in
-    let f = span-at (take (s .count) (s .addresses .now)) (s .start) (s .n) (c .before .at .given .0 .0) (sym (c .before .at .given .1) ∙ c .before .before .before .find-span .ensures) in
+    let f = span-at (take (s .count) (s .addresses .now)) (s .start) (s .n) (c .before .at .given .0 .0) (sym (c .before .before .before .find-span .ensures) ∙ c .before .at .given .1) in
     rw (sym (c .before .before .before .before .before .before .span-fits .ensures) ∙ not-false _ (c .before .before .before .before .before .if1 .left), lt-ltb (s .start) p (c .before .before .before .before .if2 .left), f .0, ← f .1)
 
 returns-4 : tie.Need-returns-4

@@ -22,18 +22,18 @@ loop-holds c =
     let a = s .args in
     storing-start (a .tainted) (a .addresses .now) (a .numbers .now) (a .taints .now) (a .count) (a .start) (a .values .now) (s .pre .0)
 
-add-store : tie.Need-add-store Inv-loop μ-loop
+add-store-by-search : tie.Need-add-store-by-search Inv-loop μ-loop
 unfolding heapEnd
-add-store c =
+add-store-by-search c =
     let s = c .before .before .before .before .before .before .before .before .before in
     let h : s .args .start + length (s .args .values .now) ≤ heapEnd = s .pre .1 .0 (omega arith) in
     omega arith
 
-mul-store : tie.Need-mul-store Inv-loop μ-loop
-mul-store c = omega arith
+mul-store-by-search : tie.Need-mul-store-by-search Inv-loop μ-loop
+mul-store-by-search c = omega arith
 
-shared-slice-read-store : tie.Need-shared-slice-read-store Inv-loop μ-loop
-shared-slice-read-store c = omega arith
+shared-slice-read-store-by-search : tie.Need-shared-slice-read-store-by-search Inv-loop μ-loop
+shared-slice-read-store-by-search c = omega arith
 
 -- the next value
 module _ (c : tie.In-loop Inv-loop μ-loop) where
@@ -51,8 +51,8 @@ module _ (c : tie.In-loop Inv-loop μ-loop) where
       storing-fits (a .tainted) (a .addresses .now) (a .numbers .now) (a .taints .now) (a .count) (a .start) (a .values .now)
       _ _ _ _ _ (c .before .loop .inv) (c .loop-test .taken) (entry .pre .1 .1)
 
-store-requires : tie.Need-store-requires Inv-loop μ-loop
-store-requires c κs = (c .before .before .before .before .before .loop .inv .ordered, next-fits (c .before .before .before .before))
+store-by-search-requires : tie.Need-store-by-search-requires Inv-loop μ-loop
+store-by-search-requires c κs = (c .before .before .before .before .before .loop .inv .ordered, next-fits (c .before .before .before .before))
 
 add-stored : tie.Need-add-stored Inv-loop μ-loop
 add-stored c = omega arith
@@ -65,7 +65,7 @@ loop-again c =
     let t = c .before .before .before .before .before .before .before .before .before .before .before in
     let a = entry t .args in
     storing-next (a .tainted) (a .addresses .now) (a .numbers .now) (a .taints .now) (a .count) (a .start) (a .values .now)
-    _ _ _ _ _ (t .before .loop .inv) (t .loop-test .taken) _ _ _ _ (entry t .pre .1 .0) (next-fits t) (c .before .before .before .before .before .before .store .ensures)
+    _ _ _ _ _ (t .before .loop .inv) (t .loop-test .taken) _ _ _ _ (entry t .pre .1 .0) (next-fits t) (c .before .before .before .before .before .before .store-by-search .ensures)
 
 same-length : tie.Need-same-length Inv-loop μ-loop
 same-length c = c .before .loop .inv .addressesLength
@@ -85,4 +85,4 @@ returns c =
 pub store-each-spec : {M : Type 1} → statement M
 store-each-spec =
     tie.close
-    (tie.spec Inv-loop μ-loop loop-holds add-store mul-store shared-slice-read-store store-requires add-stored loop-less loop-again same-length same-length-2 same-length-3 returns)
+    (tie.spec Inv-loop μ-loop loop-holds add-store-by-search mul-store-by-search shared-slice-read-store-by-search store-by-search-requires add-stored loop-less loop-again same-length same-length-2 same-length-3 returns)

@@ -1,0 +1,22 @@
+-- `capi::tainted_calls::ola_tainted_check_text` meets its contract: the machine is read from its record, and the answer's record is written.
+use Rattle.rules.specs.Calls.{taintedText}
+use Rattle.capi.proofs.LeftLaws.{tainted-checked}
+use borrow.Author.Needs.{needs}
+use Rattle.capi.proofs.tainted_calls.ola_tainted_check_text.Statement.{statement}
+use Rattle.capi.proofs.tainted_calls.ola_tainted_check_text.Tie as tie
+
+machine-of-requires : tie.Need-machine-of-requires
+machine-of-requires c κs = search needs
+
+check-text-requires : tie.Need-check-text-requires
+check-text-requires c κs = search needs
+
+answer-record-requires : tie.Need-answer-record-requires
+answer-record-requires c κs = search needs
+
+returns : tie.Need-returns
+returns c = tainted-checked _ (taintedText _ 0) (c .before .before .machine-of .ensures) (c .before .check-text .ensures) (c .answer-record .ensures)
+
+pub ola-tainted-check-text-spec : {M : Type 1} → statement M
+ola-tainted-check-text-spec =
+    tie.close (tie.spec machine-of-requires check-text-requires answer-record-requires returns)

@@ -1,0 +1,2 @@
+-- What the proofs of thin functions share.
+pub mod Lending

@@ -1,0 +1,2 @@
+-- What the contracts of `machine` cite beside the rules.
+pub mod Stepping

@@ -1,0 +1,22 @@
+-- What is handed in, and what a step gives, in the rules' words.
+use Prim.Native.Nat.{ℕ}
+use mathlib.Core.List.{List}
+use Rattle.rules.specs.declared.Machine.{Machine}
+use Rattle.rules.specs.Answers.{meaning}
+use Rattle.rules.specs.Entry.{Snapshot, TaintedSnapshot}
+use Rattle.rules.specs.Calls.{Called}
+use Rattle.executor.specs.Calling.{snapshot}
+use Rattle.tainted.specs.Calling.{snapshot as snapshotWith}
+use Rattle.machine.specs.declared.Answered.{Answered}
+use Rattle.machine.specs.declared.TaintedMachine.{TaintedMachine}
+
+-- the answer by its number and values, the steps, and all that was handed in as it is afterwards
+abbrev pub stepped : Machine → Answered → List ℕ → List ℕ → List ℕ → List ℕ → Called Snapshot
+stepped m r xs ns tape output = record { answer = meaning (r .answer); steps = r .steps; left = snapshot m xs ns tape output }
+
+abbrev pub taintedSnapshot : TaintedMachine → List ℕ → List ℕ → List ℕ → List ℕ → List ℕ → TaintedSnapshot
+taintedSnapshot m = snapshotWith (m .machine) (m .«register_taints»)
+
+abbrev pub taintedStepped : TaintedMachine → Answered → List ℕ → List ℕ → List ℕ → List ℕ → List ℕ → Called TaintedSnapshot
+taintedStepped m r xs ns ts tape output =
+    record { answer = meaning (r .answer); steps = r .steps; left = taintedSnapshot m xs ns ts tape output }
