@@ -1,4 +1,4 @@
--- `capi::tainted_calls::ola_tainted_step_words` meets its contract: the machine is read from its record, the call is made, and both records are written.
+-- `capi::tainted_calls::ola_tainted_step_words` meets its contract: the machine is read from its record and lent, and both records are written.
 use Rattle.rules.specs.Calls.{taintedWords}
 use Rattle.capi.proofs.LeftLaws.{tainted-left}
 use borrow.Author.Needs.{needs}
@@ -8,8 +8,8 @@ use Rattle.capi.proofs.tainted_calls.ola_tainted_step_words.Tie as tie
 machine-of-requires : tie.Need-machine-of-requires
 machine-of-requires c κs = search needs
 
-step-words-requires : tie.Need-step-words-requires
-step-words-requires c κs = search needs
+lend-and-step-tainted-requires : tie.Need-lend-and-step-tainted-requires
+lend-and-step-tainted-requires c κs = search needs
 
 answer-record-requires : tie.Need-answer-record-requires
 answer-record-requires c κs = search needs
@@ -33,14 +33,21 @@ same-length-5 : tie.Need-same-length-5
 same-length-5 c = search needs
 
 returns : tie.Need-returns
-returns c = tainted-left _ (taintedWords _ _) (c .before .before .before .before .before .before .before .before .before .before .before .before .before .before .before .before .before .before .before .before .machine-of .ensures) (c .before .before .before .before .before .before .before .before .before .before .before .before .before .step-words .ensures) (c .before .answer-record .ensures) (c .machine-record .ensures)
+returns c =
+    let s = c .before .before .before .before .before .before .before .before .before .before .before .before .before .before .before .lend-and-step-tainted .result in
+    tainted-left
+    (record { answer = s .answered .answer; steps = s .answered .steps; machine = s .machine .machine; «register_taints» = s .machine .«register_taints» })
+    (taintedWords _ _)
+    (c .before .before .before .before .before .before .before .before .before .before .before .before .before .before .before .before .before .before .before .before .before .before .machine-of .ensures)
+    (c .before .before .before .before .before .before .before .before .before .before .before .before .before .before .before .lend-and-step-tainted .ensures)
+    (c .before .answer-record .ensures) (c .machine-record .ensures)
 
 pub ola-tainted-step-words-spec : {M : Type 1} → statement M
 ola-tainted-step-words-spec =
     tie.close
     (tie.spec
     machine-of-requires
-    step-words-requires
+    lend-and-step-tainted-requires
     answer-record-requires
     machine-record-requires
     same-length
