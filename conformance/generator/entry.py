@@ -1,7 +1,7 @@
 """What is refused before a step: programs, texts and states that are not fit, alone and together."""
 
 from .case import Case
-from .frames import OPCODES, frame, immediate, register
+from .frames import OPCODES, digits, frame, immediate, line, register
 from .numbers import CLOCK_END, HEAP_END, MOST_CELLS, MOST_FRAMES, MOST_VALUES, P
 from .passing import CELLS, OUTPUT, TAPE
 
@@ -10,14 +10,6 @@ ADD = frame("ADD", register(1), register(2), register(3))
 END = frame("END")
 REGISTERS = {1: 3, 2: 5, 9: 24}
 BOTH_RUNS = [("plain", 3), ("guarded", 3)]
-
-
-def digits(words):
-    return "".join(f"{word:016x}" for word in words)
-
-
-def line(words):
-    return f"line {digits(words)}"
 
 
 def state(case):

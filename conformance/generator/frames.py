@@ -52,6 +52,16 @@ def frame(opcode, op0=ABSENT, op1=ABSENT, dst=ABSENT):
     return [first] + values
 
 
+def digits(words):
+    """A frame as text."""
+    return "".join(f"{word:016x}" for word in words)
+
+
+def line(words):
+    """The line of a case that gives a frame as text."""
+    return f"line {digits(words)}"
+
+
 def binary_length(opcode, op1):
     """How far the instruction moves pc."""
     return 2 if opcode in ("MLOAD", "MSTORE") or op1.kind in (1, 3, 4) else 1

@@ -1,9 +1,8 @@
 """Whole programs, drawn so that most of their steps pass: loops, calls, memory, tape, and marks that travel."""
 
 from .case import Case
-from .entry import line
-from .frames import ABSENT, binary_length, factor, frame, immediate, offset, register
-from .numbers import P
+from .frames import ABSENT, binary_length, factor, frame, immediate, line, offset, register
+from .numbers import P, STACK_END
 
 COUNT = 250
 BUDGET = 48
@@ -76,7 +75,7 @@ def case(random, index):
         str(index),
         None if as_text else [word for words in frames for word in words],
         [line(words) for words in frames] if as_text else None,
-        registers={**{place: random.below(8) for place in range(WORKED)}, ONE: 1, HEAP: 0xFFFFFFFD00000003, 9: 12},
+        registers={**{place: random.below(8) for place in range(WORKED)}, ONE: 1, HEAP: STACK_END, 9: 12},
         cells=cells,
         tape=[random.below(64) for _ in range(3)],
         context=tuple(random.word() for _ in range(4)),
