@@ -3,11 +3,11 @@
 set -eu
 cd "$(dirname "$0")/.."
 rt check cases >&2
+echo "The library:"
+python3 conformance/run.py target/bin/cases
 rt staticlib capi >&2
 cargo build --quiet --release --offline --manifest-path oracle/Cargo.toml -p compare
-for player in "target/bin/cases" "oracle/target/release/compare play" "oracle/target/release/compare play-model"; do
-    echo "$player"
-    # The words of a player are its command and arguments.
-    # shellcheck disable=SC2086
-    python3 conformance/run.py $player
-done
+echo "Its C interface:"
+python3 conformance/run.py oracle/target/release/compare play
+echo "The model:"
+python3 conformance/run.py oracle/target/release/compare play-model

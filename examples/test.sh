@@ -1,6 +1,6 @@
 #!/usr/bin/env bash
 # Builds and runs both examples, and holds what they print to expected.txt.
-set -eu
+set -euo pipefail
 cd "$(dirname "$0")"
 for language in c rust; do
     bash "$language/run.sh" | diff expected.txt -

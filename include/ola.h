@@ -1,13 +1,15 @@
 /* The Ola step machine, proved: its interface for C and for whatever can call C.
  *
- * Link with libcapi.a, which `rt staticlib capi` writes to target/staticlib. The library allocates nothing, keeps nothing between calls,
- * reads and writes nothing but what it is lent, and uses at most 32 KB of stack. Calls on different records and buffers may run at the same time.
+ * Link with libcapi.a, for x86-64, which `rt staticlib capi` writes to target/staticlib. The library allocates nothing, keeps nothing between
+ * calls, reads and writes nothing but what it is lent, and uses at most 32 KB of stack. Calls on different records and buffers may run at the
+ * same time.
  *
  *     cc -Iinclude solve.c target/staticlib/libcapi.a
  *
  * The machine has ten registers, a memory, a tape and an output. A call runs a program for at most `budget` steps: it checks all that it is
  * handed, runs, writes what is left into the same places, and fills in an answer. What a paused call leaves can be handed in again and goes on.
- * conformance/RULES.md says what each instruction does and in which order things are refused.
+ * conformance/RULES.md says what each instruction does and in which order things are refused; it calls a taint a mark, and the tainted run the
+ * guarded run.
  *
  * Example: a program as text, with its budget in the first line.
  *
@@ -23,7 +25,7 @@
  *
  * Whatever is handed in, a call answers; there is no undefined case but these, which no function can look at:
  * - a pointer is the address of as many elements as the length behind it says, and is not null, not even where the length is 0;
- * - in one call no two of the things that are lent overlap.
+ * - nothing that a call may write overlaps anything else that is lent to it.
  */
 #ifndef OLA_H
 #define OLA_H
@@ -42,7 +44,7 @@ extern "C" {
 #define OLA_MOST_VALUES 4096         /* elements of the tape, and of the output */
 #define OLA_CLOCK_END 1000000000000u /* clk is below it where a run starts */
 
-/* The machine: 20 words of 64 bits, in this order. A call reads all of it and writes all of it. */
+/* The machine: 20 words of 64 bits, in this order. A run or a step reads and writes all of it; a check only reads it. */
 typedef struct {
     uint64_t registers[10];
     uint64_t pc;              /* where the next instruction starts */

@@ -5,6 +5,40 @@
 
 mod c;
 
+/// The greatest lengths that are not refused: of addresses, numbers and taints; of the tape, and of the output.
+pub const MOST_CELLS: usize = 2048;
+pub const MOST_VALUES: usize = 4096;
+
+/// The numbers of outcomes.
+pub mod outcome {
+    pub const ENDED: u64 = 0;
+    pub const CALLING: u64 = 1;
+    pub const DELEGATE_CALLING: u64 = 2;
+    pub const PAUSED: u64 = 3;
+}
+
+/// The numbers of refusals.
+pub mod refusal {
+    pub const BAD_LENGTH: u64 = 1;
+    pub const MALFORMED_FRAME: u64 = 2;
+    pub const BAD_STATE: u64 = 3;
+    pub const NO_INSTRUCTION: u64 = 4;
+    pub const UNCOVERED_OPCODE: u64 = 5;
+    pub const BAD_OPERAND: u64 = 6;
+    pub const NOT_IN_FIELD: u64 = 7;
+    pub const NOT_SMALL: u64 = 8;
+    pub const ASSERT_FAILED: u64 = 9;
+    pub const RANGE_CHECK_FAILED: u64 = 10;
+    pub const CELL_ABSENT: u64 = 11;
+    pub const SPAN_PAST_REGION: u64 = 12;
+    pub const TAPE_FAULT: u64 = 13;
+    pub const STORE_FAULT: u64 = 14;
+    pub const PROPHET_STORE: u64 = 15;
+    pub const NO_CAPACITY: u64 = 16;
+    pub const CLOCK_END_REACHED: u64 = 17;
+    pub const TAINTED_SINK: u64 = 18;
+}
+
 /// A machine, in the order of the record's words.
 #[repr(C)]
 #[derive(Debug, Clone, Copy, PartialEq, Eq)]
@@ -39,7 +73,7 @@ impl Default for Machine {
 #[repr(C)]
 #[derive(Debug, Clone, Copy, PartialEq, Eq, Default)]
 pub struct Answer {
-    /// 0: an outcome, e0 to e3; 1: a refusal.
+    /// 0: `number` is an outcome's; 1: it is a refusal's.
     pub refused: u64,
     pub number: u64,
     pub steps: u64,
@@ -47,6 +81,13 @@ pub struct Answer {
     pub frame: u64,
     /// The callee of e1 and e2.
     pub callee: [u64; 4],
+}
+
+impl Answer {
+    /// Would another call go on?
+    pub fn is_paused(&self) -> bool {
+        self.refused == 0 && self.number == outcome::PAUSED
+    }
 }
 
 /// A program in one of its three forms.
@@ -75,11 +116,11 @@ impl Default for Lent {
         Lent {
             machine: Machine::default(),
             register_taints: 0,
-            addresses: vec![0; 2048],
-            numbers: vec![0; 2048],
-            taints: vec![0; 2048],
-            tape: vec![0; 4096],
-            output: vec![0; 4096],
+            addresses: vec![0; MOST_CELLS],
+            numbers: vec![0; MOST_CELLS],
+            taints: vec![0; MOST_CELLS],
+            tape: vec![0; MOST_VALUES],
+            output: vec![0; MOST_VALUES],
         }
     }
 }
@@ -251,37 +292,29 @@ pub fn run_tainted_slices(program: Program, lent: Slices, answer: &mut Answer) {
 /// One plain step.
 pub fn step(words: &[u64], lent: &mut Lent) -> Answer {
     let mut answer = Answer::default();
-    step_slices(words, lent.slices(), &mut answer);
+    let lent = lent.slices();
+    plain!(
+        ola_step_words(words),
+        lent,
+        lent.machine,
+        as_mut_ptr,
+        &mut answer
+    );
     answer
 }
 
 /// One tainted step.
 pub fn step_tainted(words: &[u64], lent: &mut Lent) -> Answer {
     let mut answer = Answer::default();
-    step_tainted_slices(words, lent.slices(), &mut answer);
-    answer
-}
-
-/// One plain step, in slices.
-pub fn step_slices(words: &[u64], lent: Slices, answer: &mut Answer) {
-    plain!(
-        ola_step_words(words),
-        lent,
-        lent.machine,
-        as_mut_ptr,
-        answer
-    )
-}
-
-/// One tainted step, in slices.
-pub fn step_tainted_slices(words: &[u64], lent: Slices, answer: &mut Answer) {
+    let lent = lent.slices();
     tainted!(
         ola_tainted_step_words(words),
         lent,
         lent.machine,
         as_mut_ptr,
-        answer
-    )
+        &mut answer
+    );
+    answer
 }
 
 /// What a plain run would be refused with before its first step; outcome e3 after 0 steps where it would begin. The budget does not matter.

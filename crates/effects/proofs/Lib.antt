@@ -3,7 +3,7 @@ pub mod ReadValues
 pub mod Decisions
 pub mod Allowances
 pub mod ModeRuns
-pub mod Turns
+pub mod Iterations
 pub mod Carried
 -- Laws behind the proofs of the functions.
 pub mod CellsBelow

@@ -317,10 +317,10 @@ fn start() -> Machine
 pub fn solve(input: &[u8], lines: &mut [u8]) -> Put
     ensures { λ r. ⌜ Writes (solve (now (input .entry))) (now (lines .entry)) 0 r (now (lines .exit)) ⌝ }
 {
-    let mut addresses = [0u64; 2048];
-    let mut numbers = [0u64; 2048];
-    let mut tape = [0u64; 4096];
-    let mut output = [0u64; 4096];
+    let mut addresses = [0u64; entry::CELL_LIMIT];
+    let mut numbers = [0u64; entry::CELL_LIMIT];
+    let mut tape = [0u64; entry::VALUE_LIMIT];
+    let mut output = [0u64; entry::VALUE_LIMIT];
     let called = run_budget_text(
         input,
         start(),

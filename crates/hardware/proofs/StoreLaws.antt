@@ -153,17 +153,3 @@ stores c a (v ∷ vs) s h =
     pass-require StoreFault (and-left (isStorable v) _ s)
     (pass-require StoreFault (lt-ltb a p (below-p a (omega arith)))
     (pass-require ProphetStore (lt-ltb a heapEnd (omega arith)) (stores (put c a v) (suc a) vs (and-right (isStorable v) _ s) (λ l. omega arith))))
-
-pub store-refused : (c d : Cells ℕ) (a : ℕ) (vs : List ℕ) {f : Refusal} → storeMany (cells ℕ) c a vs ≡ refuse f → storeMany (cells ℕ) d a vs ≡ refuse f
-unfolding storeMany require
-store-refused c d a [] e = refuse-pass (sym e)
-store-refused c d a (v ∷ vs) {f} e = go (λ h. store-refused (put c a v) (put d a v) (suc a) vs h) (isStorable v) (ltb a p) (ltb a heapEnd) e
-  where
-    go : (storeMany (cells ℕ) (put c a v) (suc a) vs ≡ refuse f → storeMany (cells ℕ) (put d a v) (suc a) vs ≡ refuse f)
-        → (x y z : Bool)
-        → require x StoreFault (require y StoreFault (require z ProphetStore (storeMany (cells ℕ) (put c a v) (suc a) vs))) ≡ refuse f
-        → require x StoreFault (require y StoreFault (require z ProphetStore (storeMany (cells ℕ) (put d a v) (suc a) vs))) ≡ refuse f
-    go k false y z e = e
-    go k true false z e = e
-    go k true true false e = e
-    go k true true true e = k e

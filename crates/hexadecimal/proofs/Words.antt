@@ -15,29 +15,6 @@ use Rattle.rules.specs.Numbers.{choose}
 use Rattle.rules.specs.Hexadecimal.{digitOf, onDigit, digitsOf, wordOf, digitChar, lowDigits, digits16, digitCount, shortestHex}
 use Rattle.hexadecimal.proofs.Digits.{decimal, letter, digit-lt}
 
--- the number of digits that stand after n
-pub digits-bound : (cs : List ℕ) (n w : ℕ) → digitsOf n cs ≡ Word w → w < suc n * 16 ^ length cs
-unfolding digitsOf
-digits-bound [] n w e = let k : n ≡ w = cc in omega arith
-digits-bound (c ∷ cs) n w e = go (digits-bound cs) (digitOf c) refl e
-  where
-    go : ((m u : ℕ) → digitsOf m cs ≡ Word u → u < suc m * 16 ^ length cs)
-        → (d : HexWord) → digitOf c ≡ d → onDigit d (λ v. digitsOf (n * 16 + v) cs) ≡ Word w → w < suc n * 16 ^ suc (length cs)
-    go ih NotHex h e = let z : _≡_ {A = ℕ} 0 1 = cc in omega arith
-    go ih (Word v) h e =
-        let l : suc (n * 16 + v) ≤ suc n * 16 = omega (arith, digit-lt c v h) in
-        rw (pow-suc 16 (length cs)) (omega (arith, ih (n * 16 + v) w e, mul-le-mul-right (16 ^ length cs) l))
-
-pub word-lt : (cs : List ℕ) (w : ℕ) → wordOf cs ≡ Word w → w < 2 ^ 64
-unfolding wordOf
-word-lt cs w = go (eqb (length cs) 16) refl
-  where
-    go : (b : Bool) → eqb (length cs) 16 ≡ b → choose b (digitsOf 0 cs) NotHex ≡ Word w → w < 2 ^ 64
-    go false h e = let z : _≡_ {A = ℕ} 0 1 = cc in omega arith
-    go true h e =
-        let n : length cs ≡ 16 = eqb-true (length cs) 16 h in
-        rw n at (digits-bound cs 0 w e)
-
 -- one more digit at the end
 digits-snoc : (cs : List ℕ) (n c : ℕ) → digitsOf n (cs ++ (c ∷ [])) ≡ onDigit (digitsOf n cs) (λ m. onDigit (digitOf c) (λ d. Word (m * 16 + d)))
 unfolding digitsOf

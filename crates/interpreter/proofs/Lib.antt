@@ -3,7 +3,7 @@ pub mod Parts
 pub mod Fitting
 pub mod Holding
 pub mod Arms
-pub mod Turning
+pub mod Iterating
 pub mod Leaving
 pub mod Running
 pub mod BothRuns

@@ -85,10 +85,10 @@ pub fn lend_and_step(
 ) -> Stepped
     ensures { λ r. ⌜ stepped (r .machine) (r .answered) (now (addresses .exit)) (now (numbers .exit)) (now (tape .exit)) (now (output .exit)) ≡ plainWords (now (words .entry)) 1 (snapshot machine (now (addresses .entry)) (now (numbers .entry)) (now (tape .entry)) (now (output .entry))) ⌝ }
 {
-    let mut kept = machine;
-    let answered = step(&mut kept, words, addresses, numbers, tape, output);
+    let mut record = machine;
+    let answered = step(&mut record, words, addresses, numbers, tape, output);
     Stepped {
-        machine: kept,
+        machine: record,
         answered,
     }
 }
@@ -161,10 +161,10 @@ pub fn lend_and_step_tainted(
 ) -> TaintedStepped
     ensures { λ r. ⌜ taintedStepped (r .machine) (r .answered) (now (addresses .exit)) (now (numbers .exit)) (now (taints .exit)) (now (tape .exit)) (now (output .exit)) ≡ taintedWords (now (words .entry)) 1 (taintedSnapshot machine (now (addresses .entry)) (now (numbers .entry)) (now (taints .entry)) (now (tape .entry)) (now (output .entry))) ⌝ }
 {
-    let mut kept = machine;
-    let answered = tainted_step(&mut kept, words, addresses, numbers, taints, tape, output);
+    let mut record = machine;
+    let answered = tainted_step(&mut record, words, addresses, numbers, taints, tape, output);
     TaintedStepped {
-        machine: kept,
+        machine: record,
         answered,
     }
 }

@@ -1,4 +1,4 @@
-// Labels: what the first line of a call starts with.
+// Labels: an answer's number, for the lines of `solve` and the records for C.
 use rules::Answer;
 use rules::Refusal;
 ghost use mathlib.Core.Path.{_≡_};
@@ -12,6 +12,7 @@ pub enum Label {
     Malformed(u64),
 }
 
+// The one table of numbers.
 pub fn label_of(answer: Answer) -> Label
     ensures { λ r. ⌜ Labels (meaning answer) r ⌝ }
 {

@@ -18,11 +18,6 @@ both-same h (pass a) = passed (h a)
 pub both-equal : {A : Type 0} {r q : Result A} → r ≡ q → Both (λ a b. a ≡ b) r q
 both-equal {r = r} e = subst (Both (λ a b. a ≡ b) r) e (both-same (λ a. refl) r)
 
-pub both-weaken : {A B : Type 0} {R S : A → B → Type 0} {r : Result A} {q : Result B} → ((a : A) (b : B) → R a b → S a b)
-    → Both R r q → Both S r q
-both-weaken h refused = refused
-both-weaken h (passed {a} {b} x) = passed (h a b x)
-
 pub both-bind : {A B C D : Type 0} {R : A → B → Type 0} {S : C → D → Type 0} {r : Result A} {q : Result B} (f : A → Result C) (g : B → Result D)
     → Both R r q → ((a : A) (b : B) → R a b → Both S (f a) (g b)) → Both S (bind r f) (bind q g)
 unfolding bind

@@ -68,7 +68,7 @@ starred =
     -- CALL with R9 = 0: 14; R9 = 1 writes cell 0: the following pc, 2
     ∷ row (plain 1 call (withR 9 0 start)) (cellAt 0) (refused 14) 0 []
     ∷ row (plain 1 call (withR 9 1 start)) (cellAt 0) e3 1 (2 ∷ [])
-    -- RET with R9 = 1, cell 0 held: 11
+    -- RET with R9 = 1, cell 0 present: 11
     ∷ row (plain 1 ret (withR 9 1 (withCell 0 5 start))) (cellAt 0) (refused 11) 0 (5 ∷ [])
     -- SCCALL with op1 = 2: e1, which carries the callee
     ∷ row (plain 1 (contractCall 2) (withCell 0 5 (withCell 1 6 (withCell 2 7 (withCell 3 8 start))))) nothing (outcome 1 (5 ∷ 6 ∷ 7 ∷ 8 ∷ [])) 1 []

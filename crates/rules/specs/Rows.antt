@@ -15,7 +15,7 @@ use Rattle.rules.specs.Calls.{Called, plainWords, taintedWords}
 -- Where a call starts
 
 -- a present cell
-pub record Kept : Type 0 where
+pub record PresentCell : Type 0 where
   pub address : ℕ
   pub number : ℕ
   pub taint : ℕ
@@ -30,12 +30,12 @@ pub record Free : Type 0 where
 pub record Start : Type 0 where
   pub registers : List ℕ
   pub taints : ℕ
-  pub cells : List Kept
+  pub cells : List PresentCell
   pub tape : List ℕ
   pub clk : ℕ
   pub free : Free
 
-abbrev from : List ℕ → ℕ → List Kept → List ℕ → ℕ → Free → Start
+abbrev from : List ℕ → ℕ → List PresentCell → List ℕ → ℕ → Free → Start
 from rs ts cs vs n f = record { registers = rs; taints = ts; cells = cs; tape = vs; clk = n; free = f }
 
 -- R0 is 7, so that a result of 0 shows; all else is 0 and empty

@@ -137,14 +137,14 @@ memoryRefusals =
     ∷ refuses 12 (tapeStore 0xFFFFFFFE00000000 2) (withCell 0xFFFFFFFE00000000 5 (withCell 0xFFFFFFFE00000001 6 start))
     ∷ passes (tapeStore 0xFFFFFFFE00000000 1) (withCell 0xFFFFFFFE00000000 5 (withCell 0xFFFFFFFE00000001 6 start))
     ∷ refuses 12 (tapeStore 0xFFFFFFFFFFFFFFFF 1) start
-    -- 11: a cell not held; an address from p on, a length of 0 too; a length of 0 below p passes
+    -- 11: a cell not present; an address from p on, a length of 0 too; a length of 0 below p passes
     ∷ refuses 11 (tapeStore 0 5) (fourCells start)
     ∷ refuses 11 (tapeStore 0xFFFFFFFF00000001 0) start
     ∷ passes (tapeStore 0xFFFFFFFF00000000 0) start
     ∷ refuses 11 (frame O.Mload (imm 3) (imm 1) r0) (fourCells start)
     ∷ gives (frame O.Mload (imm 2) (imm 1) r0) (fourCells start) (registerAt 0) (8 ∷ [])
     ∷ gives (frame O.Mload (imm 0xFFFFFFFF00000000) (imm 2) r0) (fourCells start) (registerAt 0) (6 ∷ [])
-    -- 11: RET with R9 below 2, and with a cell not held; it reads pc from R9 - 1, R9 from R9 - 2
+    -- 11: RET with R9 below 2, and with a cell not present; it reads pc from R9 - 1, R9 from R9 - 2
     ∷ refuses 11 ret (fourCells start)
     ∷ refuses 11 ret (withR 9 1 (fourCells start))
     ∷ refuses 11 ret (withR 9 5 (fourCells start))

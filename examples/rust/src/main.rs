@@ -3,8 +3,6 @@
 
 use ola_library::{check, kilosteps, run, run_tainted, step, Answer, Lent, Machine, Program};
 
-const PAUSED: u64 = 3;
-
 /// Doubles 5, stores it in cell 3, hands it back.
 const DOUBLING: [u64; 9] = [
     0x0000000200008804, // MOV 5 to r1
@@ -56,7 +54,7 @@ fn step_by_step() {
     loop {
         let answer = step(&DOUBLING, &mut lent);
         print_answer("step", &answer, &lent.machine);
-        if (answer.refused, answer.number) != (0, PAUSED) {
+        if !answer.is_paused() {
             break;
         }
     }

@@ -87,7 +87,7 @@ fn play_case(machine: Machine, case: &Case, kind: Run, budget: Option<u64>, outp
     for _ in 0..budget.unwrap_or(0) {
         let answer = machine.call(case.program(Some(1)), &mut lent, kind);
         transcript.write(&answer, &lent, output);
-        if !is_paused(&answer) {
+        if !answer.is_paused() {
             break;
         }
     }
@@ -95,8 +95,4 @@ fn play_case(machine: Machine, case: &Case, kind: Run, budget: Option<u64>, outp
     let answer = machine.call(case.program(budget), &mut lent, kind);
     output.push_str("run ");
     transcript.write(&answer, &lent, output);
-}
-
-fn is_paused(answer: &Answer) -> bool {
-    (answer.refused, answer.number) == (0, 3)
 }

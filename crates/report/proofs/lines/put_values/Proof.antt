@@ -29,7 +29,7 @@ mul-put-value c = search needs
 shared-slice-read-put-value : tie.Need-shared-slice-read-put-value Inv-loop μ-loop
 shared-slice-read-put-value c = search needs
 
--- at a turn: the value's line is left, and those of the values that follow
+-- at an iteration: the value's line is left, and those of the values that follow
 module _ (c : tie.In-loop Inv-loop μ-loop) where
   abbrev values : List ℕ
   values = now (c .before .before .before .before .args .values)

@@ -1,4 +1,4 @@
--- `transcript::text::add_zeros` ends: each turn leaves fewer digits.
+-- `transcript::text::add_zeros` ends: each iteration leaves fewer digits.
 use borrow.Author.Needs.{needs}
 use Rattle.transcript.proofs.text.add_zeros.Statement.{statement}
 use Rattle.transcript.proofs.text.add_zeros.Tie as tie
