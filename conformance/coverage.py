@@ -5,6 +5,7 @@ import sys
 from collections import Counter
 
 import vectors
+from generate import DRAWN_PARTS, PARTS
 from generator import marks, refusals
 from generator.frames import KINDS, OPCODES, PLACES
 
@@ -98,6 +99,9 @@ def vectors_table():
         calls = Counter(call.run.split(" ")[0] for each in answers for call in each.calls)
         rows.append([name, len(answers), calls["plain"], calls["guarded"]])
     table(["vectors", "cases", "plain calls", "guarded calls"], rows)
+    print("\nThe parts of `generated`, by what the names of their cases begin with:")
+    parts = Counter(answers.name.split(" ")[1].rstrip(":") for answers in vectors.read_answers("generated"))
+    table(["part", "what it has", "cases"], [[part, title, parts[part]] for part, title, _ in PARTS + DRAWN_PARTS])
 
 
 def answers_table(steps):

@@ -43,4 +43,5 @@ def write(part, title, cases):
         sys.stdout.write(case.write(part))
 
 
-main()
+if __name__ == "__main__":
+    main()
