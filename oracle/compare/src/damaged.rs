@@ -12,18 +12,10 @@ use crate::generate::{self, starts, Form};
 use crate::options::Options;
 use crate::predict::predict;
 use crate::progress::Progress;
+use crate::sides::PAUSED;
 use crate::tables::{grouped, head, row};
 
 const MOST_STEPS: u64 = 50;
-
-/// What a check answers where a run would begin: e3 after no step.
-const PASSED: Answer = Answer {
-    refused: 0,
-    number: 3,
-    steps: 0,
-    frame: 0,
-    callee: [0; 4],
-};
 
 /// The forms of a program.
 #[derive(Debug, Clone, Copy, PartialEq, Eq)]
@@ -163,7 +155,8 @@ fn predicted_call(
     };
     let expected = match predicted.reason {
         Some(_) => answer,
-        None => PASSED,
+        // A run would begin.
+        None => PAUSED,
     };
     if checked != expected {
         return Err(format!(

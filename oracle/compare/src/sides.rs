@@ -217,7 +217,8 @@ impl Sides {
     }
 }
 
-const PAUSED: Answer = Answer {
+/// e3 after no step.
+pub const PAUSED: Answer = Answer {
     refused: 0,
     number: 3,
     steps: 0,
