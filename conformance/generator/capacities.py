@@ -60,8 +60,8 @@ def unused_places():
 
 def tape_reads():
     for count in (0, 1, 3):
-        for op0 in (0, 1, 2):
-            for op1 in range(5):
+        for op0 in (0, 1, 2, 0x100000000, 0x100000001):
+            for op1 in (0, 1, 2, 3, 4, 0x100000000, 0x100000001):
                 words = frame("TLOAD", immediate(op0), immediate(op1), immediate(30))
                 tape = [0x51 + index for index in range(count)]
-                yield case(f"TLOAD {op0} {op1} of a tape of {count}", words, cells_free=4, tape=tape)
+                yield case(f"TLOAD {op0:x} {op1:x} of a tape of {count}", words, cells_free=4, tape=tape)

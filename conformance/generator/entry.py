@@ -105,6 +105,7 @@ STATES = {
     "cell count of 2^32": {"used": [2**32] + COUNTS[1:]},
     "tape count of 2^32": {"used": [COUNTS[0], 2**32, COUNTS[2]]},
     "output count of 2^32": {"used": COUNTS[:2] + [2**32]},
+    "cell count 2^32 above the length": {"used": [2**32 + COUNTS[0]] + COUNTS[1:], "buffers": [COUNTS[0]] * 3 + COUNTS[1:]},
     "addresses shorter than numbers": {"buffers": lengths(addresses=MOST_CELLS - 1)},
     "numbers shorter than addresses": {"buffers": lengths(numbers=MOST_CELLS - 1)},
     "marks shorter": {"buffers": lengths(marks=MOST_CELLS - 1)},
