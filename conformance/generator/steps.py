@@ -40,12 +40,12 @@ def case(random, index):
     operands = [operand(random, wanted_register=place == 2) for place in range(3)]
     if opcode in ("JMP", "CALL", "RC", "NOT", "MOV", "ASSERT") and not random.one_in(5):
         operands[0] = ABSENT
-    held = {address: min(value, P) for address, value in cells(random).items()}
+    present = {address: min(value, P) for address, value in cells(random).items()}
     case = Case(
         f"{index}, {opcode}",
         frame(opcode, *operands),
         registers={place: number(random) for place in range(10)},
-        cells=held,
+        cells=present,
         tape=[number(random) for _ in range(random.below(6))],
         output=[number(random) for _ in range(random.below(3))],
         context=tuple(random.word() for _ in range(4)),
@@ -53,10 +53,10 @@ def case(random, index):
         clk=random.pick([0, random.below(CLOCK_END), CLOCK_END - 1]),
         runs=[("plain", 1), ("guarded", 1)],
     )
-    case.cells_length = len(held) + random.pick([0, 1, 2, 40])
+    case.cells_length = len(present) + random.pick([0, 1, 2, 40])
     case.tape_length = len(case.tape) + random.pick([0, 2, 12, 40])
     case.output_length = len(case.output) + random.pick([0, 2, 40])
-    case.cell_marks = {address for address, value in held.items() if value < P and random.one_in(4)}
+    case.cell_marks = {address for address, value in present.items() if value < P and random.one_in(4)}
     below = [place for place in range(10) if case.registers[place] < P]
     case.register_marks = sum(1 << place for place in below if random.one_in(6))
     return case
