@@ -64,7 +64,7 @@ typedef struct {
     uint64_t refused;   /* 0: `number` is an outcome; 1: it is a refusal */
     uint64_t number;    /* one of those below */
     uint64_t steps;     /* steps done in this call */
-    uint64_t frame;     /* of OLA_MALFORMED_FRAME: which frame, from 1; 0 is the budget line */
+    uint64_t frame;     /* of OLA_MALFORMED_FRAME: the earliest malformed one, from 1; 0 is the budget line */
     uint64_t callee[4]; /* of OLA_CALLING and OLA_DELEGATE_CALLING: whom */
 } ola_answer;
 
@@ -80,7 +80,7 @@ enum {
  * before it left it, and is not counted; only the step of OLA_CLOCK_END_REACHED stands and is counted. */
 enum {
     OLA_BAD_LENGTH = 1,        /* no frame, more than 512, or more than 65,536 bytes of text */
-    OLA_MALFORMED_FRAME = 2,   /* a frame or line is malformed */
+    OLA_MALFORMED_FRAME = 2,   /* a frame or line is malformed; `frame` is the earliest that is */
     OLA_BAD_STATE = 3,         /* clk, a count, a length, an address, a number or a taint is not fit */
     OLA_NO_INSTRUCTION = 4,    /* none starts at pc */
     OLA_UNCOVERED_OPCODE = 5,  /* POSEIDON, SLOAD, SSTORE, SIGCHECK, EVENT */

@@ -38,6 +38,9 @@ WORD_PROGRAMS = {
     "a value word that looks malformed": frame("MOV", op1=immediate(31), dst=register(1)) + END,
 }
 
+# A rest without a line feed.
+REST = "zeros 10"
+
 # Lines of a text; the first stands where a budget line would.
 TEXT_PROGRAMS = {
     "fit": [line(MOVE), line(ADD), line(END)],
@@ -53,8 +56,8 @@ TEXT_PROGRAMS = {
     "a letter g": [line(MOVE), line(END)[:-1] + "g"],
     "an empty line": [line(MOVE), "line", line(END)],
     "a carriage return": [line(MOVE) + "\r", line(END)],
-    "a rest without a line feed": [line(MOVE), "zeros 10"],
-    "only a rest": ["zeros 10"],
+    "a rest without a line feed": [line(MOVE), REST],
+    "only a rest": [REST],
     "several malformed": [line(MOVE), line([27]), line(ADD), line([28])],
     "512 lines": [line(END)] * MOST_FRAMES,
     "513 lines": [line(END)] * (MOST_FRAMES + 1),
@@ -79,6 +82,20 @@ BUDGET_LINES = {
     "budget and a carriage return": "line 0000000000000002\r",
     "budget and a space": "line 0000000000000002 ",
     "an empty budget line": "line",
+}
+
+# What can be wrong with a line.
+LINE_FAULTS = {
+    "an empty line": "line",
+    "a digit too few": line(MOVE)[:-1],
+    "a digit too many": line(MOVE) + "0",
+    "no digit": line(MOVE)[:-1] + "g",
+    "no digit in the first word": line(MOVE).replace("8804", "880A"),
+    "opcode 27": line([27]),
+    "an unused bit": line([END[0] | 1 << 63]),
+    "no selector": line([END[0] | 2 << 8]),
+    "a word missing": line(MOVE[:1]),
+    "a word too many": line(END + [0]),
 }
 
 # Refusal 3: lines that take the place of the state's own.
@@ -155,6 +172,7 @@ def cases():
     for name, lines in TEXT_PROGRAMS.items():
         yield state(Case(f"text: {name}", text=lines, runs=BOTH_RUNS))
     yield from budget_texts()
+    yield from several_malformed()
     for name, lines in STATES.items():
         case = state(Case(f"state: {name}", WORD_PROGRAMS["fit"], runs=BOTH_RUNS))
         case.damage = damage(lines)
@@ -176,6 +194,27 @@ def budget_texts():
     for size in (65536, 65537):
         lines = [budget_line, f"zeros {size - BUDGET_LINE_BYTES:x}"]
         yield state(Case(f"{size} bytes with the budget line", text=lines, runs=runs))
+
+
+def several_malformed():
+    """Two or more malformed lines: the earliest is carried, whatever is wrong with it and with those after it."""
+    with_budget = [("plain", None), ("guarded", None)]
+    for first, earlier in LINE_FAULTS.items():
+        for second, later in LINE_FAULTS.items():
+            lines = [line(MOVE), earlier, line(ADD), later]
+            yield state(Case(f"text: {first} in line 2, {second} in line 4", text=lines, runs=BOTH_RUNS))
+        lines = [line(MOVE), earlier, line(ADD), REST]
+        yield state(Case(f"text: {first} in line 2, then a rest", text=lines, runs=BOTH_RUNS))
+    for budget in ("budget 2", "budget of 15 digits", "budget of 17 digits", "budget in upper case", "an empty budget line"):
+        for name, fault in LINE_FAULTS.items():
+            lines = [BUDGET_LINES[budget], line(MOVE), fault, fault]
+            yield state(Case(f"{budget}, {name} in frames 2 and 3", text=lines, runs=with_budget))
+    for places in ((3, 40), (256, 257), (1, MOST_FRAMES), (MOST_FRAMES,)):
+        lines = [line([27]) if number in places else line(END) for number in range(1, MOST_FRAMES + 1)]
+        name = " and ".join(str(place) for place in places)
+        yield state(Case(f"text: 512 lines, malformed {name}", text=lines, runs=BOTH_RUNS))
+        for budget in ("budget 2", "an empty budget line"):
+            yield state(Case(f"{budget}, 512 frames, malformed {name}", text=[BUDGET_LINES[budget]] + lines, runs=with_budget))
 
 
 def together():

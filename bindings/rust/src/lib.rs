@@ -77,7 +77,7 @@ pub struct Answer {
     pub refused: u64,
     pub number: u64,
     pub steps: u64,
-    /// The malformed frame of refusal 2.
+    /// Of refusal 2: the earliest malformed frame, from 1; 0 is the budget line.
     pub frame: u64,
     /// The callee of e1 and e2.
     pub callee: [u64; 4],

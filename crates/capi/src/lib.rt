@@ -7,7 +7,7 @@
 //
 // A machine is a record of 20 words: registers 0 to 9, pc, clk, psp, the four words of the storage address, and the counts of used cells,
 // tape values and output values. An answer is a record of 8 words: 0 for an outcome or 1 for a refusal, its number in document 01, the
-// steps done, the malformed frame of refusal 2 (else 0), and the four words of the callee of e1 and e2 (else 0).
+// steps done, the earliest malformed frame of refusal 2 (else 0), and the four words of the callee of e1 and e2 (else 0).
 //
 // Each function takes any arguments and answers, and touches nothing but what it is lent. A call refused at entry writes its answer and
 // leaves the rest: the machine's record is written anew and is what it was (`RecordsKept` in specs/Records.antt). include/ola.h is the

@@ -88,7 +88,8 @@ wordRefusalsHold = (refl, refl, refl, refl)
 
 pub textRefusalsHold : TextRefusalsHold
 unfolding calling endLines
-textRefusalsHold = (refl, refl, refl, refl, refl, refl, refl, refl, refl, refl, refl, refl, refl, refl, refl, refl, refl, refl, refl, refl)
+textRefusalsHold =
+    (refl, refl, refl, refl, refl, refl, refl, refl, refl, refl, refl, refl, refl, refl, refl, refl, refl, refl, refl, refl, refl, refl, refl, refl, refl)
 
 pub stateRefusalsHold : StateRefusalsHold
 unfolding calling stateRefusals taintRefusals

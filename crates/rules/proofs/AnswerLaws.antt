@@ -102,8 +102,12 @@ pub refusal-not-sink : (f : Refusal) → refusalMeaning f ≡ refusal 18 [] → 
 unfolding meaning
 refusal-not-sink f h = let e : A.Refused f ≡ A.TaintedSink = sink-answer (A.Refused f) h in let z : _≡_ {A = ℕ} 0 1 = cc in omega arith
 
--- refusal 2
+-- refusal 2 carries one number
 
-pub malformed-refusal : (f : Refusal) (n : ℕ) → refusalMeaning f ≡ refusal 2 (n ∷ []) → f ≡ R.MalformedFrame n
-unfolding meaning refusalMeaning
-malformed-refusal f n h = let e : A.Refused f ≡ A.Refused (R.MalformedFrame n) = meaning-injective (A.Refused f) (A.Refused (R.MalformedFrame n)) h in cc
+pub malformed-refusal : (f : Refusal) (vs : List ℕ) → refusalMeaning f ≡ refusal 2 vs → (n : ℕ) × (vs ≡ n ∷ []) × (f ≡ R.MalformedFrame n)
+unfolding answerOf refusals refusalMeaning
+malformed-refusal f vs h =
+    let e : A.Refused f ≡ A.Refused (R.MalformedFrame (getD vs 0 0)) = sym (refusal-back f) ∙ ap answerOf h in
+    let g : f ≡ R.MalformedFrame (getD vs 0 0) = cc in
+    let m : refusal 2 vs ≡ refusal 2 (getD vs 0 0 ∷ []) = sym h ∙ ap refusalMeaning g in
+    (getD vs 0 0, cc, g)

@@ -10,9 +10,12 @@ pub mod OverlayLaws
 pub mod EntryLaws
 pub mod FirstWords
 pub mod DecodedRegisters
-pub mod MalformedReported
 pub mod Relational
 pub mod Passing
+pub mod Refusing
+-- refusals 1, 2 and 3 are the entry's; what 2 carries
+pub mod PastEntry
+pub mod MalformedReported
 -- the tables of cases
 pub mod Unfolding
 pub mod AllCases

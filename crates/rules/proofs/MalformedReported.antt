@@ -1,71 +1,197 @@
--- Refusal 2 carries the number of a malformed frame.
-use Prim.Native.Nat.{ℕ, suc}
-use mathlib.Core.Path.{_≡_, refl, subst}
-use mathlib.Core.Bool.{Bool, true, false, not}
-use mathlib.Core.List.{List, [], _∷_, map}
+-- Refusal 2 carries the earliest malformed frame.
+use Prim.Native.Nat.{ℕ, suc, _≤_}
+use mathlib.Core.Path.{_≡_, refl, sym, ap, _∙_}
+use mathlib.Core.Bool.{Bool, true, false, not, _&&_}
+use mathlib.Core.List.{List, [], _∷_, _++_, map, append-nil}
 use native.Mathlib.Omega.{arith}
 use lib.Dec.{leb}
 use lib.ListN.{length}
 use borrow.Author.Tests.{not-false}
 use Rattle.rules.specs.declared.Frame.{Frame}
+use Rattle.rules.specs.declared.Instruction.{Instruction}
 use Rattle.rules.specs.declared.Refusal.{Refusal}
-use Rattle.rules.specs.declared.Refusal.the-variants.{BadLength, MalformedFrame}
-use Rattle.rules.specs.Numbers.{textLimit}
+use Rattle.rules.specs.declared.Refusal.the-variants.{BadLength, MalformedFrame, BadState}
+use Rattle.rules.specs.Numbers.{frameLimit, textLimit, choose}
 use Rattle.rules.specs.Results.{Result, refuse, pass, require}
-use Rattle.rules.specs.Frames.{framesAfter, isMalformed, anyOf, reportedFrame, Reported, this, later, countFits, loadFrames, loadWords}
-use Rattle.rules.specs.Text.{Line, linesOf, frameOfLine, loadText, loadJob, loadBudgetText}
-use Rattle.rules.specs.MalformedFrames.{malformedWords, malformedLines, malformedJob, ReportsMalformed}
+use Rattle.rules.specs.Frames.{framesAfter, isMalformed, anyOf, earliestMalformed, countFits, instructions, loadFrames, loadWords}
+use Rattle.rules.specs.Text.{Line, Job, lineFeed, linesOf, frameOfLine, budgetOf, wordValue, loadText, loadJob, loadBudgetText}
+use Rattle.rules.specs.Answers.{Meaning, refusal, refusalMeaning}
+use Rattle.rules.specs.Cells.{cells}
+use Rattle.rules.specs.Entry.{Snapshot, TaintedSnapshot, plainEntry, taintedEntry, environment, stateOf, taintedStateOf}
+use Rattle.rules.specs.Calls.{Called, refused, jobProgram, jobBudget, plainCall, plainWords, plainText, plainBudgetText, taintedCall, taintedWords, taintedText, taintedBudgetText}
+use Rattle.rules.specs.Solve.{decimal, zeroFields, field, carriedFields, printed, solveStart, solve}
+use Rattle.rules.specs.MalformedFrames.{MalformedAt, here, further, Earliest, this, later, EarliestIsLeast, Numbered, numberedWords, numberedText, framesBehind, malformedLines, numberedBudgetText, Carried, CarriesEarliest, CallsCarryEarliest}
 use Rattle.rules.proofs.BoolLaws.{false-true}
+use Rattle.rules.proofs.ResultLaws.{refuse-pass}
+use Rattle.rules.proofs.AnswerLaws.{malformed-refusal}
+use Rattle.rules.proofs.PastEntry.{isPastEntry, run-past, tainted-run-past}
 
-reported : (n : ℕ) (bs : List Bool) → anyOf bs ≡ true → Reported n bs (reportedFrame n bs)
-unfolding reportedFrame
-reported n [] h = absurd (false-true h)
-reported n (true ∷ bs) h = this
-reported n (false ∷ bs) h = later (reported (suc n) bs h)
+-- The earliest malformed frame
 
--- a refusal that a test gives, or what the test lets through
-require-refuses : {A X : Type 0} (b : Bool) (f : Refusal) (r : Result A) {g : Refusal} → require b f r ≡ refuse g
-    → (b ≡ false → f ≡ g → X) → (r ≡ refuse g → X) → X
-unfolding require
-require-refuses true f r h k l = l h
-require-refuses false f r h k l = k refl (let z : f ≡ _ = cc in z)
+some-malformed : {n r : ℕ} {bs : List Bool} → Earliest n bs r → anyOf bs ≡ true
+some-malformed this = refl
+some-malformed (later e) = some-malformed e
 
-length-is-not : {X : Type 0} {n : ℕ} → BadLength ≡ MalformedFrame n → X
+is-defined : {n r : ℕ} {bs : List Bool} → Earliest n bs r → earliestMalformed n bs ≡ r
+unfolding earliestMalformed
+is-defined this = refl
+is-defined (later e) = is-defined e
+
+defined : (n : ℕ) (bs : List Bool) → anyOf bs ≡ true → Earliest n bs (earliestMalformed n bs)
+unfolding earliestMalformed
+defined n [] h = absurd (false-true h)
+defined n (true ∷ bs) h = this
+defined n (false ∷ bs) h = later (defined (suc n) bs h)
+
+malformed : {n r : ℕ} {bs : List Bool} → Earliest n bs r → MalformedAt n bs r
+malformed this = here
+malformed (later e) = further (malformed e)
+
+from-first : {n q : ℕ} {bs : List Bool} → MalformedAt n bs q → n ≤ q
+from-first here = omega arith
+from-first (further m) = let h = from-first m in omega arith
+
+least : {n r q : ℕ} {bs : List Bool} → Earliest n bs r → MalformedAt n bs q → r ≤ q
+least this m = from-first m
+least (later e) (further m) = least e m
+
+only : {n r : ℕ} {bs : List Bool} → MalformedAt n bs r → ((q : ℕ) → MalformedAt n bs q → r ≤ q) → Earliest n bs r
+only here h = this
+only (further {n = n} {b = true} m) h = let l = h n here in let k = from-first m in absurd (omega arith)
+only (further {b = false} m) h = later (only m (λ q k. h q (further k)))
+
+pub earliest-is-least : EarliestIsLeast
+earliest-is-least =
+    record {
+      defined = defined;
+      unique = λ e f. sym (is-defined e) ∙ is-defined f;
+      malformed = malformed;
+      least = least;
+      only = only;
+    }
+
+-- Loading: a program is refused 2 exactly where a number is to be carried
+
+pub record LoadsEarliest (f : Numbered) {A : Type 0} (loaded : Result A) : Type 0 where
+  pub carries : (n : ℕ) → loaded ≡ refuse (MalformedFrame n) → Carried f n
+  pub refuses : (n : ℕ) → Carried f n → loaded ≡ refuse (MalformedFrame n)
+
+length-is-not : {A X : Type 0} {n : ℕ} → _≡_ {A = Result A} (refuse BadLength) (refuse (MalformedFrame n)) → X
 length-is-not h = absurd (let z : _≡_ {A = ℕ} 0 1 = cc in omega arith)
 
-pass-is-not : {A X : Type 0} {a : A} {g : Refusal} → pass a ≡ refuse g → X
-pass-is-not h = absurd (let z : _≡_ {A = ℕ} 0 1 = cc in omega arith)
+-- the tests of count and form
+tests : {A : Type 0} (c : Bool) (first : ℕ) (bs : List Bool) (a : A)
+    → LoadsEarliest (record { inOrder = c; first = first; malformed = bs })
+    (require c BadLength (require (not (anyOf bs)) (MalformedFrame (earliestMalformed first bs)) (pass a)))
+unfolding require
+tests false first bs a = record { carries = λ n e. length-is-not e; refuses = λ n k. absurd (false-true (k .inOrder)) }
+tests {A} true first bs a =
+    record {
+      carries = λ n e. go n (anyOf bs) refl e;
+      refuses = λ n k. rw (some-malformed (k .earliest), is-defined (k .earliest));
+    }
+  where
+    go : (n : ℕ) (b : Bool) → anyOf bs ≡ b → require (not b) (MalformedFrame (earliestMalformed first bs)) (pass a) ≡ refuse (MalformedFrame n)
+        → Carried (record { inOrder = true; first = first; malformed = bs }) n
+    go n true s e =
+        let z : earliestMalformed first bs ≡ n = cc in
+        record { inOrder = refl; earliest = rw (sym z) (defined first bs s) }
+    go n false s e = refuse-pass (sym e)
 
--- the test of form, of numbered frames
-by-form : {A : Type 0} (first : ℕ) (bs : List Bool) (a : A) {n : ℕ} → require (not (anyOf bs)) (MalformedFrame (reportedFrame first bs)) (pass a) ≡ refuse (MalformedFrame n)
-    → Reported first bs n
-by-form first bs a h =
-    require-refuses (not (anyOf bs)) _ _ h
-    (λ b e. subst (Reported first bs) (let z : reportedFrame first bs ≡ _ = cc in z) (reported first bs (not-false (anyOf bs) b)))
-    pass-is-not
+-- the test of a text's length before them
+in-length : {A : Type 0} (l : Bool) {c : Bool} {first : ℕ} {bs : List Bool} {r : Result A}
+    → LoadsEarliest (record { inOrder = c; first = first; malformed = bs }) r
+    → LoadsEarliest (record { inOrder = l && c; first = first; malformed = bs }) (require l BadLength r)
+unfolding require
+in-length true h = h
+in-length false h = record { carries = λ n e. length-is-not e; refuses = λ n k. absurd (false-true (k .inOrder)) }
 
-frames-report : (fs : List Frame) {n : ℕ} → loadFrames fs ≡ refuse (MalformedFrame n) → Reported 1 (map isMalformed fs) n
+frames-earliest : (fs : List Frame) → LoadsEarliest (record { inOrder = countFits fs; first = 1; malformed = map isMalformed fs }) (loadFrames fs)
 unfolding loadFrames
-frames-report fs h = require-refuses (countFits fs) BadLength _ h (λ b e. length-is-not e) (λ k. by-form 1 (map isMalformed fs) _ k)
+frames-earliest fs = tests (countFits fs) 1 (map isMalformed fs) (instructions fs)
 
-words-report : (words : List ℕ) (n : ℕ) → loadWords words ≡ refuse (MalformedFrame n) → Reported 1 (malformedWords words) n
+pub words-earliest : (words : List ℕ) → LoadsEarliest (numberedWords words) (loadWords words)
 unfolding loadWords
-words-report words n h = frames-report (framesAfter 0 words) h
+words-earliest words = frames-earliest (framesAfter 0 words)
 
-text-reports : (text : List ℕ) (n : ℕ) → loadText text ≡ refuse (MalformedFrame n) → Reported 1 (malformedLines (linesOf text)) n
+pub text-earliest : (text : List ℕ) → LoadsEarliest (numberedText text) (loadText text)
 unfolding loadText
-text-reports text n h = require-refuses (leb (length text) textLimit) BadLength _ h (λ b e. length-is-not e) (frames-report (map frameOfLine (linesOf text)))
+text-earliest text = in-length (leb (length text) textLimit) (frames-earliest (map frameOfLine (linesOf text)))
 
-job-reports : (lines : List Line) {n : ℕ} → loadJob lines ≡ refuse (MalformedFrame n) → Reported 0 (malformedJob lines) n
-unfolding loadJob
-job-reports [] h = absurd (let z : _≡_ {A = ℕ} 0 1 = cc in omega arith)
-job-reports (b ∷ lines) h =
-    require-refuses (countFits (map frameOfLine lines)) BadLength _ h (λ c e. length-is-not e)
-    (λ k. by-form 0 (malformedJob (b ∷ lines)) _ k)
+lines-earliest : (lines : List Line)
+    → LoadsEarliest (record { inOrder = countFits (framesBehind lines); first = 0; malformed = malformedLines lines }) (loadJob lines)
+unfolding loadJob countFits
+lines-earliest [] = record { carries = λ n e. length-is-not e; refuses = λ n k. absurd (false-true (k .inOrder)) }
+lines-earliest (b ∷ lines) = tests (countFits (map frameOfLine lines)) 0 (malformedLines (b ∷ lines)) _
 
-budget-text-reports : (text : List ℕ) (n : ℕ) → loadBudgetText text ≡ refuse (MalformedFrame n) → Reported 0 (malformedJob (linesOf text)) n
+-- a job's program is refused where the job is
+job-refused : (r : Result Job) (g : Refusal) → jobProgram r ≡ refuse g → r ≡ refuse g
+job-refused (refuse f) g e = let z : f ≡ g = cc in ap refuse z
+job-refused (pass j) g e = refuse-pass (sym e)
+
+pub budget-text-earliest : (text : List ℕ) → LoadsEarliest (numberedBudgetText text) (jobProgram (loadBudgetText text))
 unfolding loadBudgetText
-budget-text-reports text n h = require-refuses (leb (length text) textLimit) BadLength _ h (λ b e. length-is-not e) (job-reports (linesOf text))
+budget-text-earliest text =
+    let h = in-length (leb (length text) textLimit) (lines-earliest (linesOf text)) in
+    record { carries = λ n e. h .carries n (job-refused _ _ e); refuses = λ n k. ap jobProgram (h .refuses n k) }
 
-pub reports-malformed : ReportsMalformed
-reports-malformed = record { words = words-report; text = text-reports; budgetText = budget-text-reports }
+-- Whole calls
+
+-- a call that is refused as its program is
+as-loaded : (f : Numbered) {S : Type 0} (s : S) (g : Refusal) → LoadsEarliest f {A = List Instruction} (refuse g) → CarriesEarliest f s (refused g s)
+unfolding refusalMeaning
+as-loaded f s g h =
+    record {
+      carries = λ values e. let z = malformed-refusal g values e in (z .0, z .1, h .carries (z .0) (ap refuse (z .2)));
+      refuses = λ n k. let e : refuse g ≡ refuse (MalformedFrame n) = h .refuses n k in let z : g ≡ MalformedFrame n = cc in ap (λ g. refused g s) z;
+    }
+
+-- and one whose program is loaded: the state is unfit, or the run gets past the entry
+unfit-or-run : {S : Type 0} (b : Bool) (ran : Called S) (s : S) → isPastEntry (ran .answer) ≡ true → (values : List ℕ)
+    → choose b ran (refused BadState s) .answer ≡ refusal 2 values → ⊥
+unfolding refusalMeaning
+unfit-or-run true ran s h values e = false-true (sym (ap isPastEntry e) ∙ h)
+unfit-or-run false ran s h values e = let z : _≡_ {A = ℕ} 3 2 = cc in omega arith
+
+entered : (f : Numbered) {S : Type 0} (s : S) (call : Called S) {program : List Instruction} → LoadsEarliest f (pass program)
+    → ((values : List ℕ) → call .answer ≡ refusal 2 values → ⊥) → CarriesEarliest f s call
+entered f s call h q = record { carries = λ values e. absurd (q values e); refuses = λ n k. refuse-pass (sym (h .refuses n k)) }
+
+plain-carries : (f : Numbered) (loaded : Result (List Instruction)) → LoadsEarliest f loaded → (budget : ℕ) (s : Snapshot)
+    → CarriesEarliest f s (plainCall loaded budget s)
+unfolding plainCall
+plain-carries f (refuse g) h budget s = as-loaded f s g h
+plain-carries f (pass program) h budget s =
+    entered f s _ h (unfit-or-run (plainEntry s) _ s (run-past (cells ℕ) (environment program s) budget (stateOf s)))
+
+tainted-carries : (f : Numbered) (loaded : Result (List Instruction)) → LoadsEarliest f loaded → (budget : ℕ) (g : TaintedSnapshot)
+    → CarriesEarliest f g (taintedCall loaded budget g)
+unfolding taintedCall
+tainted-carries f (refuse r) h budget g = as-loaded f g r h
+tainted-carries f (pass program) h budget g =
+    entered f g _ h (unfit-or-run (taintedEntry g) _ g (tainted-run-past (cells ℕ) (environment program (g .plain)) budget (taintedStateOf g)))
+
+budget-text-carries : (text : List ℕ) (s : Snapshot) → CarriesEarliest (numberedBudgetText text) s (plainBudgetText text s)
+unfolding plainBudgetText
+budget-text-carries text s = plain-carries _ _ (budget-text-earliest text) (jobBudget (loadBudgetText text)) s
+
+solve-prints : (text : List ℕ) (n : ℕ) → Carried (numberedBudgetText text) n → solve text ≡ decimal 2 ++ (zeroFields ++ (field n ++ (lineFeed ∷ [])))
+unfolding solve printed carriedFields
+solve-prints text n k =
+    ap printed (budget-text-carries text solveStart .refuses n k)
+    ∙ ap (λ (carried : List ℕ). decimal 2 ++ (zeroFields ++ (carried ++ (lineFeed ∷ [])))) (append-nil (field n))
+
+pub calls-carry-earliest : CallsCarryEarliest
+unfolding plainWords plainText taintedWords taintedText taintedBudgetText
+calls-carry-earliest =
+    record {
+      ofWords = λ words. plain-carries _ _ (words-earliest words);
+      ofText = λ text. plain-carries _ _ (text-earliest text);
+      ofBudgetText = budget-text-carries;
+      ofBudgetTextCheck = λ text. plain-carries _ _ (budget-text-earliest text) 0;
+      ofTaintedWords = λ words. tainted-carries _ _ (words-earliest words);
+      ofTaintedText = λ text. tainted-carries _ _ (text-earliest text);
+      ofTaintedBudgetText = λ text. tainted-carries _ _ (budget-text-earliest text) (jobBudget (loadBudgetText text));
+      ofTaintedBudgetTextCheck = λ text. tainted-carries _ _ (budget-text-earliest text) 0;
+      solvePrints = solve-prints;
+    }

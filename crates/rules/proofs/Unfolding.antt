@@ -3,7 +3,7 @@ use lib.Count.{onesIn, trailingZeros}
 use Rattle.rules.specs.Numbers.{p, stackEnd, heapEnd, smallEnd, wordEnd, clockEnd, frameLimit, textLimit, cellLimit, valueLimit}
 use Rattle.rules.specs.Results.{require, bind, after, guard}
 use Rattle.rules.specs.Hexadecimal.{digitOf, digitsOf, wordOf, lowDigits, digitCount, shortestHex}
-use Rattle.rules.specs.Frames.{opcodes, selectorFits, registerOf, firstWordFits, operandOf, instructionOf, frameOf, exactFrameOf, framesAfter, reportedFrame, countFits, loadFrames, loadWords}
+use Rattle.rules.specs.Frames.{opcodes, selectorFits, registerOf, firstWordFits, operandOf, instructionOf, frameOf, exactFrameOf, framesAfter, earliestMalformed, countFits, loadFrames, loadWords}
 use Rattle.rules.specs.Text.{linesAfter, joinedWords, frameOfLine, loadText, budgetOf, loadJob, loadBudgetText}
 use Rattle.rules.specs.Opcodes.{classOf}
 use Rattle.rules.specs.Operands.{binaryLength, instructionAt, fetch, wantsOf, valueOf, operand, operands}
@@ -20,7 +20,7 @@ unfolding onesIn trailingZeros p stackEnd heapEnd smallEnd wordEnd clockEnd fram
 numbers = tt
 
 unfoldable pub reading : Unit {0}
-unfolding digitOf digitsOf wordOf opcodes selectorFits registerOf firstWordFits operandOf instructionOf frameOf exactFrameOf framesAfter reportedFrame countFits loadFrames loadWords linesAfter joinedWords frameOfLine loadText budgetOf loadJob loadBudgetText frame bytes
+unfolding digitOf digitsOf wordOf opcodes selectorFits registerOf firstWordFits operandOf instructionOf frameOf exactFrameOf framesAfter earliestMalformed countFits loadFrames loadWords linesAfter joinedWords frameOfLine loadText budgetOf loadJob loadBudgetText frame bytes
 reading = tt
 
 unfoldable pub stepping : Unit {0}

@@ -101,11 +101,18 @@ TextRefusalsHold =
     × (text (bytes "000000000000000b0000000000000000\n") ≡ malformed 1)
     × (text (bytes "000000000000010b\n") ≡ malformed 1)
     × (text (bytes "000000000000000b\n\n") ≡ malformed 2)
+    -- several: the earliest. Lines 3 and 40; 1 and 512; 2 and a rest without a line feed
+    × (text (endLines 2 ++ (bytes "x\n" ++ (endLines 36 ++ bytes "x\n"))) ≡ malformed 3)
+    × (text (bytes "x\n" ++ (endLines 510 ++ bytes "x\n")) ≡ malformed 1)
+    × (text (endLines 1 ++ bytes "x\n000000000000000b") ≡ malformed 2)
     -- the budget line: 0 in number, not among the 512 frames, hexadecimal
     × (budgetText (bytes "0123456789abcdef\n000000000000000b\n") ≡ e0)
     × (budgetText (bytes "0000000000000000\n000000000000000b\n") ≡ e3)
     × (budgetText (bytes "000000000000001\n000000000000000b\n") ≡ malformed 0)
     × (budgetText (bytes "0000000000000001\n000000000000001b\n") ≡ malformed 1)
+    -- the budget line and frame 3; frames 3 and 40
+    × (budgetText (bytes "x\n" ++ (endLines 2 ++ bytes "x\n")) ≡ malformed 0)
+    × (budgetText (bytes "0000000000000001\n" ++ (endLines 2 ++ (bytes "x\n" ++ (endLines 36 ++ bytes "x\n")))) ≡ malformed 3)
     × (budgetText (bytes "0000000000000001\n") ≡ refused 1)
     × (budgetText (bytes "0000000000000001\n" ++ endLines 512) ≡ e0)
     × (budgetText (bytes "0000000000000001\n" ++ endLines 513) ≡ refused 1)

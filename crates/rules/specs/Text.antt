@@ -14,7 +14,7 @@ use Rattle.rules.specs.declared.Refusal.the-variants.{BadLength, Malform
 use Rattle.rules.specs.Numbers.{textLimit, choose}
 use Rattle.rules.specs.Results.{Result, refuse, pass, require}
 use Rattle.rules.specs.Hexadecimal.{wordOf}
-use Rattle.rules.specs.Frames.{isMalformed, anyOf, reportedFrame, countFits, instructions, exactFrameOf, loadFrames}
+use Rattle.rules.specs.Frames.{isMalformed, anyOf, earliestMalformed, countFits, instructions, exactFrameOf, loadFrames}
 
 -- a line ended by a line feed; or the rest of a text that lacks one
 pub data Line : Type 0 where
@@ -80,7 +80,7 @@ loadJob (b ∷ lines) =
     let fs = map frameOfLine lines in
     let bad = isNotHex (budgetOf b) ∷ map isMalformed fs in
     require (countFits fs) BadLength
-    (require (not (anyOf bad)) (MalformedFrame (reportedFrame 0 bad))
+    (require (not (anyOf bad)) (MalformedFrame (earliestMalformed 0 bad))
     (pass (record { budget = wordValue (budgetOf b); program = instructions fs })))
 
 unfoldable pub loadBudgetText : List ℕ → Result Job

@@ -3,10 +3,9 @@
 
 use ola_library::{check, check_tainted, Answer, Lent, Program};
 use oracle::frames::Frame;
-use oracle::splitmix::SplitMix64;
 
 use crate::damage;
-use crate::entry::{budget_of, Reason, Run, REASONS};
+use crate::entry::{budget_of, Refusal, Run, REASONS};
 use crate::fenced::Fenced;
 use crate::generate::{self, starts, Form};
 use crate::options::Options;
@@ -80,15 +79,15 @@ fn compare_call(seed: u64, number: u64, counts: &mut Counts) -> Result<(), Strin
         },
         Shape::BudgetText => Program::BudgetText { text: &text },
     };
-    let called = call(&mut random, program, &start, run).map_err(|what| {
+    let called = predicted_call(program, &start, run).map_err(|what| {
         format!(
             "VIOLATION: {what}\nagain with: damaged --seed {seed:x} --only {number}\n{} with budget {budget}\nwords {words:x?}\ntext {:?}\nstart {start:x?}",
             function_name(shape, run),
             String::from_utf8_lossy(&text)
         )
     });
-    let (answer, reason) = called?;
-    counts.count(shape, run, &answer, reason);
+    let (answer, refusal) = called?;
+    counts.count(shape, run, &answer, refusal);
     Ok(())
 }
 
@@ -117,31 +116,12 @@ fn shorten_budget(text: &mut [u8]) {
     }
 }
 
-fn call(
-    random: &mut SplitMix64,
-    program: Program,
-    start: &Lent,
-    run: Run,
-) -> Result<(Answer, Option<Reason>), String> {
-    let (answer, reason) = predicted_call(program, start, run)?;
-    // The malformed frame that is carried depends on the program alone.
-    if answer.refused == 1 && answer.number == 2 {
-        let other_start = starts::twin(random, start);
-        let other_run = random.pick(&RUNS);
-        let (again, _) = predicted_call(program, &other_start, other_run)?;
-        if again != answer {
-            return Err(format!("the same program: {answer:x?} and {again:x?}"));
-        }
-    }
-    Ok((answer, reason))
-}
-
-/// One call in fenced buffers, held to the model.
+/// One call in fenced buffers, held to the model; what the entry refuses.
 fn predicted_call(
     program: Program,
     start: &Lent,
     run: Run,
-) -> Result<(Answer, Option<Reason>), String> {
+) -> Result<(Answer, Option<Refusal>), String> {
     let mut fenced = Fenced::new(start);
     let answer = fenced.call(program, run);
     if !fenced.fences_stand() {
@@ -153,7 +133,7 @@ fn predicted_call(
         Run::Plain => check(program, start),
         Run::Tainted => check_tainted(program, start),
     };
-    let expected = match predicted.reason {
+    let expected = match predicted.refusal {
         Some(_) => answer,
         // A run would begin.
         None => PAUSED,
@@ -163,7 +143,7 @@ fn predicted_call(
             "the call answers {answer:x?}, the check alone {checked:x?}"
         ));
     }
-    Ok((answer, predicted.reason))
+    Ok((answer, predicted.refusal))
 }
 
 fn function_name(shape: Shape, run: Run) -> &'static str {
@@ -193,10 +173,13 @@ struct Counts {
     ends: [[[u64; ENDS.len()]; RUNS.len()]; SHAPES.len()],
     /// As in `REASONS`.
     reasons: [u64; REASONS.len()],
+    /// Refused 2 with several malformed lines: frames alone, and the budget line with frames.
+    several_frames: u64,
+    budget_and_frames: u64,
 }
 
 impl Counts {
-    fn count(&mut self, shape: Shape, run: Run, answer: &Answer, reason: Option<Reason>) {
+    fn count(&mut self, shape: Shape, run: Run, answer: &Answer, refusal: Option<Refusal>) {
         self.calls += 1;
         let end = match (answer.refused, answer.number) {
             (0, _) => 4,
@@ -204,14 +187,21 @@ impl Counts {
             _ => 3,
         };
         self.ends[shape as usize][run as usize][end] += 1;
+        let Some(refusal) = refusal else { return };
         for (place, (listed, ..)) in REASONS.iter().enumerate() {
-            self.reasons[place] += (Some(*listed) == reason) as u64;
+            self.reasons[place] += (*listed == refusal.reason) as u64;
+        }
+        match refusal.malformed[..] {
+            [0, _, ..] => self.budget_and_frames += 1,
+            [_, _, ..] => self.several_frames += 1,
+            _ => {}
         }
     }
 
     fn complete(&self) -> Result<(), String> {
         let ends = self.ends.as_flattened().as_flattened();
-        if ends.contains(&0) || self.reasons.contains(&0) {
+        let several = [self.several_frames, self.budget_and_frames];
+        if ends.contains(&0) || self.reasons.contains(&0) || several.contains(&0) {
             Err("never met: what has the count 0 in the tables".to_string())
         } else {
             Ok(())
@@ -238,6 +228,12 @@ impl Counts {
             let cells = [number.to_string(), grouped(count)];
             row(&mut text, name, &cells);
         }
+
+        head(&mut text, &["Of several malformed lines", "Count"]);
+        let count = grouped(self.several_frames);
+        row(&mut text, "the earliest frame", &[count]);
+        let count = grouped(self.budget_and_frames);
+        row(&mut text, "the budget line", &[count]);
         text
     }
 }

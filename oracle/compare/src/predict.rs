@@ -2,21 +2,18 @@
 
 use ola_library::{Answer, Lent, Program};
 
-use crate::entry::{enter, Reason, Refusal, Run};
+use crate::entry::{enter, Refusal, Run};
 use crate::lending::{difference, left_plain, left_tainted, plain_model, tainted_model};
 use crate::model::{Code, Sink};
 
 pub struct Prediction {
-    /// Its frame is the first malformed one.
     pub answer: Answer,
-    /// The frames of which refusal 2 carries one.
-    malformed: Vec<u64>,
     /// Every element of every buffer.
     pub left: Lent,
     /// Where refusal 18 comes.
     pub sink: Option<Sink>,
-    /// Why the entry refuses.
-    pub reason: Option<Reason>,
+    /// What the entry refuses.
+    pub refusal: Option<Refusal>,
 }
 
 pub fn predict(program: Program, start: &Lent, run: Run) -> Prediction {
@@ -36,10 +33,9 @@ pub fn predict(program: Program, start: &Lent, run: Run) -> Prediction {
     };
     Prediction {
         answer,
-        malformed: vec![],
         left,
         sink,
-        reason: None,
+        refusal: None,
     }
 }
 
@@ -52,24 +48,19 @@ fn refused(refusal: Refusal, start: &Lent) -> Prediction {
     };
     Prediction {
         answer,
-        malformed: refusal.malformed,
         left: start.clone(),
         sink: None,
-        reason: Some(refusal.reason),
+        refusal: Some(refusal),
     }
 }
 
 impl Prediction {
     /// An error says what is not as predicted.
     pub fn holds(&self, answer: &Answer, left: &Lent) -> Result<(), String> {
-        let mut expected = self.answer;
-        if self.malformed.contains(&answer.frame) {
-            expected.frame = answer.frame;
-        }
-        if *answer != expected {
+        if *answer != self.answer {
             return Err(format!(
-                "the model answers {expected:x?} (malformed frames: {:x?}), the library {answer:x?}",
-                self.malformed
+                "the model answers {:x?}, the library {answer:x?}",
+                self.answer
             ));
         }
         match difference(&self.left, left) {

@@ -1,0 +1,221 @@
+-- Refusals 1, 2 and 3 are the entry's alone: no step is refused with one of them, and so no run is.
+use Prim.Native.Nat.{ℕ, zero, suc, _-_}
+use mathlib.Core.Path.{_≡_, refl}
+use mathlib.Core.Bool.{Bool, true, false}
+use mathlib.Core.List.{List, [], _∷_}
+use lib.Dec.{ltb, eqb}
+use Rattle.rules.specs.declared.OlaOperand.{OlaOperand}
+use Rattle.rules.specs.declared.OlaOperand.the-variants.{Absent, Immediate, Register, RegisterWithOffset, RegisterWithFactor, Psp, Pc}
+use Rattle.rules.specs.declared.Instruction.{Instruction}
+use Rattle.rules.specs.declared.Refusal.{Refusal}
+use Rattle.rules.specs.declared.Refusal.the-variants.{NoInstruction}
+use Rattle.rules.specs.declared.Answer.{Answer}
+use Rattle.rules.specs.Numbers.{clockEnd}
+use Rattle.rules.specs.Results.{Result, TaintedResult}
+use Rattle.rules.specs.Field.{fieldAdd, fieldMul}
+use Rattle.rules.specs.Memory.{Slot, absent, present, Memory}
+use Rattle.rules.specs.Opcodes.{Class, field, equality, small, complement, move, assert, rangeCheck, jump, conditionalJump, call, return, load, store, tapeLoad, tapeStore, contractCall, end, uncovered, classOf}
+use Rattle.rules.specs.Operands.{binaryLength, instructionAt, fetch, Want, ignored, lacking, value, register, target, inField, valueOf, targetOf, absence, operand, Operands, operands}
+use Rattle.rules.specs.Step.{Environment, State, Next, Finish, goesOn, ends, calls, delegates, Ran, onClock, onFinish, r9, slotValue, read, readBelow, readMany, readSpan, storeMany, operate, capacity, step, onStep, run}
+use Rattle.rules.specs.Taint.{Taints, TaintedState, TaintedNext, taintedRest, taintedStep, onTaintedStep, taintedRun}
+use Rattle.rules.specs.Answers.{Meaning, outcome, refusal, refusalMeaning, meaning}
+use Rattle.rules.proofs.Refusing.{Refusing, refused, passed, RefusingTainted, refused-tainted, sink-tainted, passed-tainted, refusing-require, refusing-choose, refusing-bind, refusing-after, refusing-guard}
+
+-- an outcome, or a refusal above 3
+abbrev pub isPastEntry : Meaning → Bool
+isPastEntry (outcome n vs) = true
+isPastEntry (refusal n vs) = ltb 3 n
+
+abbrev AtStep : Refusal → Type 0
+AtStep f = isPastEntry (refusalMeaning f) ≡ true
+
+abbrev Past : Answer → Type 0
+Past a = isPastEntry (meaning a) ≡ true
+
+-- Fetch
+
+found : (is : List Instruction) (pc : ℕ) → Refusing AtStep (instructionAt is pc)
+unfolding instructionAt refusalMeaning
+found [] pc = refused refl
+found (i ∷ is) pc = refusing-choose (eqb pc 0) passed (refusing-choose (ltb pc (binaryLength i)) (refused {f = NoInstruction} refl) (found is (pc - binaryLength i)))
+
+fetched : (is : List Instruction) (pc : ℕ) → Refusing AtStep (fetch is pc)
+unfolding fetch refusalMeaning
+fetched is pc = refusing-bind _ (found is pc) λ i. refusing-require _ _ refl passed
+
+-- Operands
+
+in-field : (f : ℕ → ℕ → ℕ) (a b : ℕ) → Refusing AtStep (inField f a b)
+unfolding refusalMeaning
+in-field f a b = refusing-require _ _ refl (refusing-require _ _ refl passed)
+
+valued : (psp : ℕ) (registers : List ℕ) (o : OlaOperand) → Refusing AtStep (valueOf psp registers o)
+unfolding valueOf refusalMeaning
+valued psp registers Absent = refused refl
+valued psp registers (Immediate w) = passed
+valued psp registers (Register r) = passed
+valued psp registers (RegisterWithOffset r w) = in-field fieldAdd _ _
+valued psp registers (RegisterWithFactor r w) = in-field fieldMul _ _
+valued psp registers Psp = passed
+valued psp registers Pc = refused refl
+
+targeted : (o : OlaOperand) → Refusing AtStep (targetOf o)
+unfolding refusalMeaning
+targeted Absent = refused refl
+targeted (Immediate w) = refused refl
+targeted (Register r) = passed
+targeted (RegisterWithOffset r w) = refused refl
+targeted (RegisterWithFactor r w) = refused refl
+targeted Psp = refused refl
+targeted Pc = refused refl
+
+lacked : (o : OlaOperand) → Refusing AtStep (absence o)
+unfolding refusalMeaning
+lacked Absent = passed
+lacked (Immediate w) = refused refl
+lacked (Register r) = refused refl
+lacked (RegisterWithOffset r w) = refused refl
+lacked (RegisterWithFactor r w) = refused refl
+lacked Psp = refused refl
+lacked Pc = refused refl
+
+operand-read : (psp : ℕ) (registers : List ℕ) (w : Want) (o : OlaOperand) → Refusing AtStep (operand psp registers w o)
+unfolding operand
+operand-read psp registers ignored o = passed
+operand-read psp registers lacking o = lacked o
+operand-read psp registers value o = valued psp registers o
+operand-read psp registers register o = refusing-bind _ (targeted o) λ r. passed
+operand-read psp registers target o = targeted o
+
+operands-read : (psp : ℕ) (registers : List ℕ) (c : Class) (i : Instruction) → Refusing AtStep (operands psp registers c i)
+unfolding operands
+operands-read psp registers c i =
+    refusing-bind _ (operand-read psp registers _ _) λ a.
+    refusing-bind _ (operand-read psp registers _ _) λ b.
+    refusing-bind _ (operand-read psp registers _ _) λ d.
+    passed
+
+module _ (memory : Memory ℕ) where
+  open Memory memory using (Mem, get)
+
+  -- Reading and storing
+
+  slot-read : (s : Slot ℕ) → Refusing AtStep (slotValue memory s)
+  unfolding refusalMeaning
+  slot-read absent = refused refl
+  slot-read (present v) = passed
+
+  cell-read : (c : Mem) (a : ℕ) → Refusing AtStep (read memory c a)
+  cell-read c a = slot-read (get c a)
+
+  below-read : (c : Mem) (r k : ℕ) → Refusing AtStep (readBelow memory c r k)
+  unfolding refusalMeaning
+  below-read c r k = refusing-require _ _ refl (cell-read c (r - k))
+
+  many-read : (c : Mem) (a n : ℕ) → Refusing AtStep (readMany memory c a n)
+  unfolding readMany
+  many-read c a zero = passed
+  many-read c a (suc n) = refusing-bind _ (cell-read c a) λ v. refusing-bind _ (many-read c (suc a) n) λ vs. passed
+
+  span-read : (c : Mem) (a n : ℕ) → Refusing AtStep (readSpan memory c a n)
+  unfolding readSpan refusalMeaning
+  span-read c a n = refusing-require _ _ refl (refusing-require _ _ refl (many-read c a n))
+
+  many-stored : (c : Mem) (a : ℕ) (vs : List ℕ) → Refusing AtStep (storeMany memory c a vs)
+  unfolding storeMany refusalMeaning
+  many-stored c a [] = passed
+  many-stored c a (v ∷ vs) =
+      refusing-require _ _ refl (refusing-require _ _ refl (refusing-require _ _ refl (many-stored _ (suc a) vs)))
+
+  -- The operation
+
+  module _ (e : Environment) where
+    operated : (c : Class) (i : Instruction) (s : State memory) (o : Operands) → Refusing AtStep (operate memory e c i s o)
+    unfolding operate refusalMeaning
+    operated (field f) i s o = refusing-require _ _ refl (refusing-require _ _ refl passed)
+    operated (equality f) i s o = passed
+    operated (small f) i s o = refusing-require _ _ refl (refusing-require _ _ refl passed)
+    operated complement i s o = refusing-require _ _ refl passed
+    operated move i s o = passed
+    operated assert i s o = refusing-require _ _ refl passed
+    operated rangeCheck i s o = refusing-require _ _ refl passed
+    operated jump i s o = passed
+    operated conditionalJump i s o = refusing-require _ _ refl (refusing-bind _ (valued _ _ _) λ b. passed)
+    operated call i s o = refusing-require _ _ refl (refusing-bind _ (many-stored _ _ _) λ c. passed)
+    operated return i s o =
+        refusing-bind _ (below-read (s .cells) (r9 memory s) 1) λ pc. refusing-bind _ (below-read (s .cells) (r9 memory s) 2) λ r. passed
+    operated load i s o = refusing-require _ _ refl (refusing-require _ _ refl (refusing-bind _ (cell-read (s .cells) (fieldAdd (o .op0) (o .op1))) λ v. passed))
+    operated store i s o = refusing-require _ _ refl (refusing-require _ _ refl (refusing-bind _ (many-stored _ _ _) λ c. passed))
+    operated tapeLoad i s o = refusing-require _ _ refl (refusing-require _ _ refl (refusing-bind _ (many-stored _ _ _) λ c. passed))
+    operated tapeStore i s o = refusing-bind _ (span-read _ _ _) λ vs. passed
+    operated contractCall i s o = refusing-bind _ (span-read _ _ 4) λ vs. passed
+    operated end i s o = passed
+    operated uncovered i s o = refused refl
+
+    fitted : (n : Next memory) → Refusing AtStep (capacity memory e n)
+    unfolding refusalMeaning
+    fitted n = refusing-require _ _ refl passed
+
+    -- Steps
+
+    stepped : (s : State memory) → Refusing AtStep (step memory e s)
+    unfolding step
+    stepped s =
+        refusing-bind _ (fetched _ _) λ i.
+        refusing-bind _ (operands-read _ _ _ i) λ o.
+        refusing-bind _ (operated _ i s o) λ n.
+        fitted n
+
+    tainted-rest : (t : Taints memory) (c : Class) (i : Instruction) (s : State memory) (o : Operands) → RefusingTainted AtStep (taintedRest memory e t c i s o)
+    unfolding taintedRest
+    tainted-rest t c i s o =
+        refusing-after _ (operated c i s o) λ n.
+        refusing-guard _ (refusing-after _ (fitted n) λ n. passed-tainted)
+
+    tainted-stepped : (q : TaintedState memory) → RefusingTainted AtStep (taintedStep memory e q)
+    unfolding taintedStep
+    tainted-stepped q =
+        refusing-after _ (fetched _ _) λ i.
+        refusing-after _ (operands-read _ _ _ i) λ o.
+        refusing-guard _ (tainted-rest _ _ i _ o)
+
+-- Runs
+
+module _ {S : Type 0} where
+  clock-past : (b : Bool) (s : S) (r : Ran S) → Past (r .answer) → Past (onClock b s r .answer)
+  unfolding meaning refusalMeaning
+  clock-past true s r h = h
+  clock-past false s r h = refl
+
+  finish-past : (f : Finish) (clk : ℕ) (s : S) (k : S → Ran S) → Past (k s .answer) → Past (onFinish f clk s k .answer)
+  unfolding meaning
+  finish-past goesOn clk s k h = clock-past (ltb clk clockEnd) s (k s) h
+  finish-past ends clk s k h = refl
+  finish-past (calls vs) clk s k h = refl
+  finish-past (delegates vs) clk s k h = refl
+
+module _ (memory : Memory ℕ) (e : Environment) where
+  on-step-past : (s : State memory) {r : Result (Next memory)} (k : State memory → Ran (State memory)) → Refusing AtStep r
+      → ((t : State memory) → Past (k t .answer)) → Past (onStep memory s r k .answer)
+  unfolding meaning
+  on-step-past s k (refused h) q = h
+  on-step-past s k (passed {a = n}) q = finish-past (n .finish) (n .state .clk) (n .state) k (q (n .state))
+
+  pub run-past : (budget : ℕ) (s : State memory) → Past (run memory e budget s .answer)
+  unfolding run meaning
+  run-past zero s = refl
+  run-past (suc budget) s = on-step-past s (run memory e budget) (stepped memory e s) (run-past budget)
+
+  on-tainted-step-past : (q : TaintedState memory) {r : TaintedResult (TaintedNext memory)} (k : TaintedState memory → Ran (TaintedState memory)) → RefusingTainted AtStep r
+      → ((t : TaintedState memory) → Past (k t .answer)) → Past (onTaintedStep memory q r k .answer)
+  unfolding meaning
+  on-tainted-step-past q k (refused-tainted h) z = h
+  on-tainted-step-past q k sink-tainted z = refl
+  on-tainted-step-past q k (passed-tainted {a = n}) z =
+      let left : TaintedState memory = record { plain = n .next .state; taints = n .taints } in
+      finish-past (n .next .finish) (n .next .state .clk) left k (z left)
+
+  pub tainted-run-past : (budget : ℕ) (q : TaintedState memory) → Past (taintedRun memory e budget q .answer)
+  unfolding taintedRun meaning
+  tainted-run-past zero q = refl
+  tainted-run-past (suc budget) q = on-tainted-step-past q (taintedRun memory e budget) (tainted-stepped memory e q) (tainted-run-past budget)
