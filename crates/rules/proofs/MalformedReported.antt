@@ -28,14 +28,14 @@ use Rattle.rules.proofs.PastEntry.{isPastEntry, run-past, tainted-run-p
 
 -- The earliest malformed frame
 
-some-malformed : {n r : ℕ} {bs : List Bool} → Earliest n bs r → anyOf bs ≡ true
-some-malformed this = refl
-some-malformed (later e) = some-malformed e
-
 is-defined : {n r : ℕ} {bs : List Bool} → Earliest n bs r → earliestMalformed n bs ≡ r
 unfolding earliestMalformed
 is-defined this = refl
 is-defined (later e) = is-defined e
+
+some-malformed : {n r : ℕ} {bs : List Bool} → Earliest n bs r → anyOf bs ≡ true
+some-malformed this = refl
+some-malformed (later e) = some-malformed e
 
 defined : (n : ℕ) (bs : List Bool) → anyOf bs ≡ true → Earliest n bs (earliestMalformed n bs)
 unfolding earliestMalformed
