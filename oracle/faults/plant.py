@@ -6,7 +6,7 @@ stored output. Progress goes to standard error, the table to standard output. Th
 
 - the unchanged copy is not accepted by both programs,
 - a fault is noticed by neither, does not build, or keeps a program from ending,
-- an opcode, an operand kind, a refusal, a mark rule or a listed use of document 01 has no fault.
+- an opcode, an operand kind, a refusal, a mark rule or a listed use of document 01 has no fault, or a rule of document 02.
 """
 
 import argparse
@@ -63,6 +63,9 @@ LISTED_USES = (
     + ["cells of TSTORE", "cells of SCCALL", "pc of RET"]
 )
 
+# Rules of document 02.
+REQUESTS = ["the earliest malformed frame"]
+
 # What must have a fault, in the words of the lines `for:`.
 REQUIRED = (
     [f"opcode {opcode}" for opcode in OPCODES]
@@ -70,6 +73,7 @@ REQUIRED = (
     + [f"refusal {number}" for number in REFUSALS]
     + [f"mark rule: {rule}" for rule in MARK_RULES]
     + [f"listed use: {use}" for use in LISTED_USES]
+    + REQUESTS
 )
 
 
