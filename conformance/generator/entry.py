@@ -34,6 +34,8 @@ WORD_PROGRAMS = {
     "two of three values missing": frame("TLOAD", immediate(1), immediate(2), immediate(3))[:2],
     "opcode 27": ADD + [27] + ADD,
     "opcode 31": [31],
+    "a frame of two words, then opcode 27": MOVE + [27] + ADD,
+    "frames of four and two words, then opcode 27": frame("TLOAD", immediate(1), immediate(2), immediate(3)) + MOVE + [27],
     "malformed second and fourth": ADD + [1 << 5] + ADD + [1 << 5],
     "a value word that looks malformed": frame("MOV", op1=immediate(31), dst=register(1)) + END,
 }
@@ -65,10 +67,11 @@ TEXT_PROGRAMS = {
     "512 lines and a rest": ["line"] * MOST_FRAMES + ["zeros 1"],
     "65536 bytes": ["zeros 10000"],
     "65537 bytes": ["zeros 10001"],
+    "an empty line, 65537 bytes": ["line", "zeros 10000"],
 }
 
 # Those that stand behind a budget line too, and what makes them as long as a text may be.
-AFTER_BUDGET = ["fit", "no line", "an empty line", "a rest without a line feed", "only a rest", "several malformed"]
+AFTER_BUDGET = ["fit", "no line", "an empty line", "a rest without a line feed", "only a rest", "several malformed", "an empty line, 65537 bytes"]
 BUDGET_LINE_BYTES = 17
 
 BUDGET_LINES = {
@@ -209,6 +212,8 @@ def several_malformed():
         for name, fault in LINE_FAULTS.items():
             lines = [BUDGET_LINES[budget], line(MOVE), fault, fault]
             yield state(Case(f"{budget}, {name} in frames 2 and 3", text=lines, runs=with_budget))
+            lines = [BUDGET_LINES[budget], line(MOVE), fault, REST]
+            yield state(Case(f"{budget}, {name} in frame 2, then a rest", text=lines, runs=with_budget))
     for places in ((3, 40), (256, 257), (1, MOST_FRAMES), (MOST_FRAMES,)):
         lines = [line([27]) if number in places else line(END) for number in range(1, MOST_FRAMES + 1)]
         name = " and ".join(str(place) for place in places)

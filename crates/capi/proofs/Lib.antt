@@ -1,4 +1,4 @@
--- Laws of the records, and of what a call leaves. Refusal 2 in records.
+-- Laws of the records, and of what a call leaves; the statement about refusal 2 holds.
 pub mod RecordLaws
 pub mod LeftLaws
 pub mod MalformedShown

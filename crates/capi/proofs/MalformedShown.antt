@@ -1,13 +1,13 @@
 -- The record of a call's answer shows refusal 2 as the call answers it.
 use Prim.Native.Nat.{ℕ}
-use mathlib.Core.Path.{_≡_, refl, sym, ap, subst, _∙_}
+use mathlib.Core.Path.{_≡_, sym, ap, subst}
 use mathlib.Core.List.{List, [], _∷_}
 use native.Mathlib.Omega.{arith}
 use lib.ListN.{getD}
 use Rattle.rules.specs.Answers.{Meaning, outcome, refusal}
 use Rattle.rules.specs.Calls.{Called}
 use Rattle.rules.specs.MalformedFrames.{Numbered, Carried, CarriesEarliest}
-use Rattle.rules.proofs.MalformedReported.{calls-carry-earliest}
+use Rattle.rules.proofs.EarliestCarried.{calls-carry-earliest}
 use Rattle.capi.specs.Records.{calleeOf, answerRecord}
 use Rattle.capi.specs.MalformedRecords.{ShowsEarliest, RecordsShowEarliest}
 

@@ -15,7 +15,7 @@ pub mod Passing
 pub mod Refusing
 -- refusals 1, 2 and 3 are the entry's; what 2 carries
 pub mod PastEntry
-pub mod MalformedReported
+pub mod EarliestCarried
 -- the tables of cases
 pub mod Unfolding
 pub mod AllCases

@@ -66,6 +66,8 @@ wordRefusals =
     ∷ passedWords (0x490b ∷ 0 ∷ 0 ∷ 0 ∷ [])
     -- the second frame is malformed
     ∷ row (words (0xb ∷ 0x1b ∷ 0xb ∷ [])) nothing (malformed 2) 0 []
+    -- after a frame of four words: frames are counted, not words
+    ∷ row (words (0x490b ∷ 0 ∷ 0 ∷ 0 ∷ 0x1b ∷ [])) nothing (malformed 2) 0 []
     ∷ []
 
 -- Texts

@@ -26,13 +26,14 @@ pub data Earliest : ℕ → List Bool → ℕ → Type 0 where
   this : {n : ℕ} {bs : List Bool} → Earliest n (true ∷ bs) n
   later : {n r : ℕ} {bs : List Bool} → Earliest (suc n) bs r → Earliest n (false ∷ bs) r
 
--- this leaves nothing free: it is the least number of a malformed frame, and where one is malformed, the definition's number
+-- This leaves nothing free: where some frame is malformed, the definition's number is the earliest, and there is no other. It is the least
+-- number of a malformed frame, and the least is the earliest.
 pub record EarliestIsLeast : Type 0 where
   pub defined : (n : ℕ) (bs : List Bool) → anyOf bs ≡ true → Earliest n bs (earliestMalformed n bs)
   pub unique : {n r q : ℕ} {bs : List Bool} → Earliest n bs r → Earliest n bs q → r ≡ q
   pub malformed : {n r : ℕ} {bs : List Bool} → Earliest n bs r → MalformedAt n bs r
   pub least : {n r q : ℕ} {bs : List Bool} → Earliest n bs r → MalformedAt n bs q → r ≤ q
-  pub only : {n r : ℕ} {bs : List Bool} → MalformedAt n bs r → ((q : ℕ) → MalformedAt n bs q → r ≤ q) → Earliest n bs r
+  pub leastIsEarliest : {n r : ℕ} {bs : List Bool} → MalformedAt n bs r → ((q : ℕ) → MalformedAt n bs q → r ≤ q) → Earliest n bs r
 
 -- What refusals 1 and 2 look at in a program: is its length in order, the first frame's number, and which frames are malformed
 
@@ -51,19 +52,25 @@ numberedText text =
     let frames = map frameOfLine (linesOf text) in
     record { inOrder = leb (length text) textLimit && countFits frames; first = 1; malformed = map isMalformed frames }
 
--- the frames behind a budget line, and which lines are malformed, the budget line first
-abbrev pub framesBehind : List Line → List Frame
-framesBehind [] = []
-framesBehind (b ∷ lines) = map frameOfLine lines
+-- a budget line and the lines after it: the frames, and which of all are malformed, the budget line first
+abbrev pub jobFrames : List Line → List Frame
+jobFrames [] = []
+jobFrames (b ∷ lines) = map frameOfLine lines
 
-abbrev pub malformedLines : List Line → List Bool
-malformedLines [] = []
-malformedLines (b ∷ lines) = isNotHex (budgetOf b) ∷ map isMalformed (map frameOfLine lines)
+abbrev pub malformedJob : List Line → List Bool
+malformedJob [] = []
+malformedJob (b ∷ lines) = isNotHex (budgetOf b) ∷ map isMalformed (map frameOfLine lines)
 
+-- the budget line has number 0 and is not counted among the frames
 abbrev pub numberedBudgetText : List ℕ → Numbered
 numberedBudgetText text =
     let lines = linesOf text in
-    record { inOrder = leb (length text) textLimit && countFits (framesBehind lines); first = 0; malformed = malformedLines lines }
+    record { inOrder = leb (length text) textLimit && countFits (jobFrames lines); first = 0; malformed = malformedJob lines }
+
+-- a malformed frame takes the rest of bare words, so there is at most one
+abbrev pub OneAmongWords : Type 0
+OneAmongWords =
+    (words : List ℕ) (r q : ℕ) → MalformedAt 1 (numberedWords words .malformed) r → MalformedAt 1 (numberedWords words .malformed) q → r ≡ q
 
 -- refusal 1 does not come before, and n is the earliest malformed frame
 pub record Carried (f : Numbered) (n : ℕ) : Type 0 where
@@ -79,7 +86,7 @@ pub record CarriesEarliest (f : Numbered) {S : Type 0} (s : S) (call : Called S)
   pub refuses : (n : ℕ) → Carried f n → call ≡ record { answer = refusal 2 (n ∷ []); steps = 0; left = s }
 
 -- Every call that can answer 2, plain and guarded: runs have any budget, a step has 1, a check 0. The check of a text with a budget line
--- takes 0 in the place of the line's.
+-- takes 0 in the place of the line's budget.
 pub record CallsCarryEarliest : Type 0 where
   pub ofWords : (words : List ℕ) (budget : ℕ) (s : Snapshot) → CarriesEarliest (numberedWords words) s (plainWords words budget s)
   pub ofText : (text : List ℕ) (budget : ℕ) (s : Snapshot) → CarriesEarliest (numberedText text) s (plainText text budget s)

@@ -229,7 +229,7 @@ impl Counts {
             row(&mut text, name, &cells);
         }
 
-        head(&mut text, &["Of several malformed lines", "Count"]);
+        head(&mut text, &["Carried, of several malformed lines", "Count"]);
         let count = grouped(self.several_frames);
         row(&mut text, "the earliest frame", &[count]);
         let count = grouped(self.budget_and_frames);

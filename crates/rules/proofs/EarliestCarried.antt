@@ -1,26 +1,26 @@
 -- Refusal 2 carries the earliest malformed frame.
-use Prim.Native.Nat.{ℕ, suc, _≤_}
+use Prim.Native.Nat.{ℕ, zero, suc, _≤_}
 use mathlib.Core.Path.{_≡_, refl, sym, ap, _∙_}
 use mathlib.Core.Bool.{Bool, true, false, not, _&&_}
 use mathlib.Core.List.{List, [], _∷_, _++_, map, append-nil}
 use native.Mathlib.Omega.{arith}
 use lib.Dec.{leb}
 use lib.ListN.{length}
-use borrow.Author.Tests.{not-false}
 use Rattle.rules.specs.declared.Frame.{Frame}
+use Rattle.rules.specs.declared.Frame.the-variants.{Holds, Malformed}
 use Rattle.rules.specs.declared.Instruction.{Instruction}
 use Rattle.rules.specs.declared.Refusal.{Refusal}
 use Rattle.rules.specs.declared.Refusal.the-variants.{BadLength, MalformedFrame, BadState}
-use Rattle.rules.specs.Numbers.{frameLimit, textLimit, choose}
+use Rattle.rules.specs.Numbers.{textLimit, choose}
 use Rattle.rules.specs.Results.{Result, refuse, pass, require}
-use Rattle.rules.specs.Frames.{framesAfter, isMalformed, anyOf, earliestMalformed, countFits, instructions, loadFrames, loadWords}
-use Rattle.rules.specs.Text.{Line, Job, lineFeed, linesOf, frameOfLine, budgetOf, wordValue, loadText, loadJob, loadBudgetText}
-use Rattle.rules.specs.Answers.{Meaning, refusal, refusalMeaning}
+use Rattle.rules.specs.Frames.{valueCount, frameOf, onFrame, framesAfter, isMalformed, anyOf, earliestMalformed, countFits, instructions, loadFrames, loadWords}
+use Rattle.rules.specs.Text.{Line, Job, lineFeed, linesOf, frameOfLine, loadText, loadJob, loadBudgetText}
+use Rattle.rules.specs.Answers.{refusal, refusalMeaning}
 use Rattle.rules.specs.Cells.{cells}
 use Rattle.rules.specs.Entry.{Snapshot, TaintedSnapshot, plainEntry, taintedEntry, environment, stateOf, taintedStateOf}
 use Rattle.rules.specs.Calls.{Called, refused, jobProgram, jobBudget, plainCall, plainWords, plainText, plainBudgetText, taintedCall, taintedWords, taintedText, taintedBudgetText}
 use Rattle.rules.specs.Solve.{decimal, zeroFields, field, carriedFields, printed, solveStart, solve}
-use Rattle.rules.specs.MalformedFrames.{MalformedAt, here, further, Earliest, this, later, EarliestIsLeast, Numbered, numberedWords, numberedText, framesBehind, malformedLines, numberedBudgetText, Carried, CarriesEarliest, CallsCarryEarliest}
+use Rattle.rules.specs.MalformedFrames.{MalformedAt, here, further, Earliest, this, later, EarliestIsLeast, Numbered, numberedWords, OneAmongWords, numberedText, jobFrames, malformedJob, numberedBudgetText, Carried, CarriesEarliest, CallsCarryEarliest}
 use Rattle.rules.proofs.BoolLaws.{false-true}
 use Rattle.rules.proofs.ResultLaws.{refuse-pass}
 use Rattle.rules.proofs.AnswerLaws.{malformed-refusal}
@@ -55,10 +55,10 @@ least : {n r q : ℕ} {bs : List Bool} → Earliest n bs r → MalformedAt n bs 
 least this m = from-first m
 least (later e) (further m) = least e m
 
-only : {n r : ℕ} {bs : List Bool} → MalformedAt n bs r → ((q : ℕ) → MalformedAt n bs q → r ≤ q) → Earliest n bs r
-only here h = this
-only (further {n = n} {b = true} m) h = let l = h n here in let k = from-first m in absurd (omega arith)
-only (further {b = false} m) h = later (only m (λ q k. h q (further k)))
+least-is-earliest : {n r : ℕ} {bs : List Bool} → MalformedAt n bs r → ((q : ℕ) → MalformedAt n bs q → r ≤ q) → Earliest n bs r
+least-is-earliest here h = this
+least-is-earliest (further {n = n} {b = true} m) h = let l = h n here in let k = from-first m in absurd (omega arith)
+least-is-earliest (further {b = false} m) h = later (least-is-earliest m (λ q k. h q (further k)))
 
 pub earliest-is-least : EarliestIsLeast
 earliest-is-least =
@@ -67,8 +67,25 @@ earliest-is-least =
       unique = λ e f. sym (is-defined e) ∙ is-defined f;
       malformed = malformed;
       least = least;
-      only = only;
+      leastIsEarliest = least-is-earliest;
     }
+
+-- Bare words have one malformed frame at most
+
+one-of-frame : (n : ℕ) (f : Frame) (fs : List Frame) {r q : ℕ}
+    → (MalformedAt (suc n) (map isMalformed fs) r → MalformedAt (suc n) (map isMalformed fs) q → r ≡ q)
+    → MalformedAt n (map isMalformed (onFrame f fs)) r → MalformedAt n (map isMalformed (onFrame f fs)) q → r ≡ q
+one-of-frame n (Holds i) fs h (further a) (further b) = h a b
+one-of-frame n Malformed fs h here here = refl
+
+one-of-frames : (n skip : ℕ) (ws : List ℕ) {r q : ℕ}
+    → MalformedAt n (map isMalformed (framesAfter skip ws)) r → MalformedAt n (map isMalformed (framesAfter skip ws)) q → r ≡ q
+unfolding framesAfter
+one-of-frames n zero (w ∷ ws) a b = one-of-frame n (frameOf (w ∷ ws)) (framesAfter (valueCount w) ws) (one-of-frames (suc n) (valueCount w) ws) a b
+one-of-frames n (suc skip) (w ∷ ws) a b = one-of-frames n skip ws a b
+
+pub one-among-words : OneAmongWords
+one-among-words words r q a b = one-of-frames 1 0 words a b
 
 -- Loading: a program is refused 2 exactly where a number is to be carried
 
@@ -119,10 +136,10 @@ unfolding loadText
 text-earliest text = in-length (leb (length text) textLimit) (frames-earliest (map frameOfLine (linesOf text)))
 
 lines-earliest : (lines : List Line)
-    → LoadsEarliest (record { inOrder = countFits (framesBehind lines); first = 0; malformed = malformedLines lines }) (loadJob lines)
+    → LoadsEarliest (record { inOrder = countFits (jobFrames lines); first = 0; malformed = malformedJob lines }) (loadJob lines)
 unfolding loadJob countFits
 lines-earliest [] = record { carries = λ n e. length-is-not e; refuses = λ n k. absurd (false-true (k .inOrder)) }
-lines-earliest (b ∷ lines) = tests (countFits (map frameOfLine lines)) 0 (malformedLines (b ∷ lines)) _
+lines-earliest (b ∷ lines) = tests (countFits (map frameOfLine lines)) 0 (malformedJob (b ∷ lines)) _
 
 -- a job's program is refused where the job is
 job-refused : (r : Result Job) (g : Refusal) → jobProgram r ≡ refuse g → r ≡ refuse g
