@@ -8,7 +8,7 @@ from pathlib import Path
 
 HERE = Path(__file__).parent
 ANSWERS = HERE / "vectors" / "worked.answers"
-CASES = 462
+CASES = 465
 
 
 def run(change, options=()):
