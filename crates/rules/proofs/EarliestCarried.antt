@@ -96,12 +96,16 @@ pub record LoadsEarliest (f : Numbered) {A : Type 0} (loaded : Result A) : Type 
 length-is-not : {A X : Type 0} {n : ℕ} → _≡_ {A = Result A} (refuse BadLength) (refuse (MalformedFrame n)) → X
 length-is-not h = absurd (let z : _≡_ {A = ℕ} 0 1 = cc in omega arith)
 
+-- refused 1
+out-of-order : {A : Type 0} {first : ℕ} {bs : List Bool} → LoadsEarliest (record { inOrder = false; first = first; malformed = bs }) {A = A} (refuse BadLength)
+out-of-order = record { carries = λ n e. length-is-not e; refuses = λ n k. absurd (false-true (k .inOrder)) }
+
 -- the tests of count and form
 tests : {A : Type 0} (c : Bool) (first : ℕ) (bs : List Bool) (a : A)
     → LoadsEarliest (record { inOrder = c; first = first; malformed = bs })
     (require c BadLength (require (not (anyOf bs)) (MalformedFrame (earliestMalformed first bs)) (pass a)))
 unfolding require
-tests false first bs a = record { carries = λ n e. length-is-not e; refuses = λ n k. absurd (false-true (k .inOrder)) }
+tests false first bs a = out-of-order
 tests {A} true first bs a =
     record {
       carries = λ n e. go n (anyOf bs) refl e;
@@ -121,7 +125,7 @@ in-length : {A : Type 0} (l : Bool) {c : Bool} {first : ℕ} {bs : List Bool} {r
     → LoadsEarliest (record { inOrder = l && c; first = first; malformed = bs }) (require l BadLength r)
 unfolding require
 in-length true h = h
-in-length false h = record { carries = λ n e. length-is-not e; refuses = λ n k. absurd (false-true (k .inOrder)) }
+in-length false h = out-of-order
 
 frames-earliest : (fs : List Frame) → LoadsEarliest (record { inOrder = countFits fs; first = 1; malformed = map isMalformed fs }) (loadFrames fs)
 unfolding loadFrames
@@ -138,7 +142,7 @@ text-earliest text = in-length (leb (length text) textLimit) (frames-earliest (m
 lines-earliest : (lines : List Line)
     → LoadsEarliest (record { inOrder = countFits (jobFrames lines); first = 0; malformed = malformedJob lines }) (loadJob lines)
 unfolding loadJob countFits
-lines-earliest [] = record { carries = λ n e. length-is-not e; refuses = λ n k. absurd (false-true (k .inOrder)) }
+lines-earliest [] = out-of-order
 lines-earliest (b ∷ lines) = tests (countFits (map frameOfLine lines)) 0 (malformedJob (b ∷ lines)) _
 
 -- a job's program is refused where the job is
