@@ -3,7 +3,7 @@
 
 import sys
 
-from generator import capacities, clocks, entry, kinds, marks, programs, refusals, regions, steps, values
+from generator import capacities, clocks, entry, kilosteps, kinds, marks, programs, refusals, regions, steps, values
 from generator.numbers import SplitMix64
 
 SEED = 0x01A57E9
@@ -23,6 +23,7 @@ PARTS = [
     ("region", "The regions' edges.", regions.cases),
     ("capacity", "Buffers just long enough, and one too short; what stands in unused places.", capacities.cases),
     ("clock", "The clock's end and the budget's.", clocks.cases),
+    ("kilosteps", "Kilosteps at an exact half and beside it.", kilosteps.cases),
     ("entry", "What is refused before a step.", entry.cases),
 ]
 DRAWN_PARTS = [("step", "Steps, drawn.", steps.cases), ("program", "Programs, drawn.", programs.cases)]

@@ -13,16 +13,17 @@ MOST_SHOWN = 12
 
 def main():
     options = arguments()
+    print(f"version {vectors.VERSION}", flush=True)
     passed, failed = 0, 0
     for name in [options.only] if options.only else vectors.NAMES:
-        good, differences = check(name, options)
+        good, differences = check_solve(name, options) if options.solve else check(name, options)
         for number, show in enumerate(differences):
             if options.all or failed + number == 0:
                 show()
         print(f"{name}: {good} passed, {len(differences)} failed", flush=True)
         passed, failed = passed + good, failed + len(differences)
     print(f"{passed} passed, {failed} failed")
-    sys.exit(0 if failed == 0 else 1)
+    sys.exit(0 if passed and not failed else 1)
 
 
 def arguments():
@@ -32,6 +33,7 @@ def arguments():
     )
     parser.add_argument("--only", metavar="NAME", choices=vectors.NAMES, help="one of: " + ", ".join(vectors.NAMES))
     parser.add_argument("--all", action="store_true", help="show every case that fails, not only the first")
+    parser.add_argument("--solve", action="store_true", help="the command is a program `solve`: run it on each case that is an input of it")
     parser.add_argument("--seconds", type=int, default=600, metavar="N", help="how long a file of vectors may take; by default 600")
     parser.add_argument("command", nargs=argparse.REMAINDER, metavar="COMMAND", help="the implementation, with its arguments")
     options = parser.parse_args()
@@ -62,6 +64,23 @@ def check(name, options):
     return good, differences
 
 
+def check_solve(name, options):
+    """The same of a program `solve`, which is run for each case that is an input of it."""
+    _, cases = vectors.read_cases(name)
+    good, differences = 0, []
+    for case, answers in zip(cases, vectors.read_answers(name)):
+        text = vectors.solve_input(case)
+        if text is None:
+            continue
+        written, trouble = run(options, text)
+        wanted, found = vectors.solve_output(answers), written.decode("latin-1")
+        if (found, trouble) == (wanted, []):
+            good += 1
+        else:
+            differences.append(lambda case=case, wanted=wanted, found=found, trouble=trouble: show_solve(name, case, wanted, found, trouble))
+    return good, differences
+
+
 def run(options, data):
     """What the command writes, and what else is wrong with it."""
     try:
@@ -75,8 +94,7 @@ def run(options, data):
 
 def show(name, case, wanted, found):
     """A case that fails: its lines, the calls that are as expected, and the first that is not."""
-    print(f"The case in line {case.number} of vectors/{name}.cases fails:\n")
-    print("\n".join(readable(line) for line in case.lines))
+    show_case(name, case)
     if found is None or found.name != wanted.name:
         instead = "the output has ended" if found is None else f"{found.name!r} is written"
         print(f"\nIn the place of this case {instead}.\n")
@@ -96,6 +114,20 @@ def show(name, case, wanted, found):
         else:
             print(f"\n{what}: nothing more")
     print()
+
+
+def show_solve(name, case, wanted, found, trouble):
+    """An input of `solve` that fails, with what is expected, what is written, and what else is wrong."""
+    show_case(name, case)
+    for what, text in (("expected", wanted), ("written", found)):
+        lines = [readable(line) for line in text.split("\n")]
+        print(f"\n{what}:\n  " + "\n  ".join(lines[:-1] + [f"{lines[-1]} (no line feed)"] * (lines[-1] != "") or ["nothing"]))
+    print("".join(f"\n{what}" for what in trouble))
+
+
+def show_case(name, case):
+    print(f"The case in line {case.number} of vectors/{name}.cases fails:\n")
+    print("\n".join(readable(line) for line in case.lines))
 
 
 def title(calls, index):

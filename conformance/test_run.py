@@ -8,13 +8,19 @@ from pathlib import Path
 
 HERE = Path(__file__).parent
 ANSWERS = HERE / "vectors" / "worked.answers"
-CASES = 465
+CASES = 491
+SOLVE_INPUTS = 31
 
 
 def run(change, options=()):
     """The runner's status and lines, for an implementation that writes the stored answers after `change`, a statement about `data`."""
     program = f"import sys; data = open({str(ANSWERS)!r}, 'rb').read(); sys.stdin.buffer.read(); status = 0; {change}; "
     program += "sys.stdout.buffer.write(data); sys.stdout.flush(); sys.exit(status)"
+    return play(program, options)
+
+
+def play(program, options):
+    """The runner's status and lines, for an implementation in Python."""
     command = [sys.executable, str(HERE / "run.py"), "--only", "worked", *options, sys.executable, "-c", program]
     done = subprocess.run(command, stdout=subprocess.PIPE, stderr=subprocess.PIPE, check=False, text=True)
     return done.returncode, done.stdout.splitlines()
@@ -31,6 +37,10 @@ class Runner(unittest.TestCase):
     def test_all_as_stored(self):
         status, lines = run("pass")
         self.assertEqual((status, lines[-1]), (0, f"{CASES} passed, 0 failed"))
+
+    def test_the_version_is_shown(self):
+        _, lines = run("pass")
+        self.assertEqual(lines[0], "version " + (HERE / "VERSION").read_text().strip())
 
     def test_a_wrong_number(self):
         shown = self.failed("data = data.replace(b'registers 2=ffffffff\\n', b'registers 2=fffffffe\\n', 1)", 1)
@@ -74,8 +84,38 @@ class Runner(unittest.TestCase):
 
     def test_no_such_command(self):
         command = [sys.executable, str(HERE / "run.py"), "/no/such/command"]
-        done = subprocess.run(command, stderr=subprocess.PIPE, check=False, text=True)
+        done = subprocess.run(command, stdout=subprocess.DEVNULL, stderr=subprocess.PIPE, check=False, text=True)
         self.assertEqual((done.returncode, done.stderr), (1, "/no/such/command cannot be run: No such file or directory\n"))
+
+
+class Solve(unittest.TestCase):
+    """Programs `solve` that know one answer, that of document 01's listing."""
+
+    def passed(self, prints, count, *options):
+        """So many inputs pass; what is shown."""
+        program = f"import sys; sys.stdin.buffer.read(); sys.stdout.write({prints!r})"
+        status, lines = play(program, ["--solve", "--all", *options])
+        self.assertEqual((status, lines[-1]), (1, f"{count} passed, {SOLVE_INPUTS - count} failed"))
+        return "\n".join(lines)
+
+    def test_only_the_listing(self):
+        shown = self.passed("e0 5 8 5 0\na\n", 1)
+        self.assertNotIn("case the listing of solve\n", shown)
+        self.assertIn("expected:\n  e0 1f4 8 1f4 0\n\nwritten:\n  e0 5 8 5 0\n  a\n", shown)
+
+    def test_another_value(self):
+        self.assertIn("expected:\n  e0 5 8 5 0\n  a\n\nwritten:\n  e0 5 8 5 0\n  b\n", self.passed("e0 5 8 5 0\nb\n", 0))
+
+    def test_no_line_feed_at_the_end(self):
+        self.assertIn("written:\n  e0 5 8 5 0\n  a (no line feed)\n", self.passed("e0 5 8 5 0\na", 0))
+
+    def test_nothing_is_printed(self):
+        self.assertIn("written:\n  nothing\n", self.passed("", 0))
+
+    def test_no_input_of_solve(self):
+        command = [sys.executable, str(HERE / "run.py"), "--solve", "--only", "replayed", "true"]
+        done = subprocess.run(command, stdout=subprocess.PIPE, check=False, text=True)
+        self.assertEqual((done.returncode, done.stdout.splitlines()[-1]), (1, "0 passed, 0 failed"))
 
 
 def run_count(line):

@@ -6,8 +6,14 @@ from typing import NamedTuple
 
 FOLDER = Path(__file__).parent / "vectors"
 
+# Of rules, format and vectors together.
+VERSION = (Path(__file__).parent / "VERSION").read_text().strip()
+
 # From the most readable one to the largest.
 NAMES = ["worked", "replayed", "generated"]
+
+# What stands in the unused places of a case's buffers.
+UNUSED = "eeeeeeeeeeeeeeee"
 
 ANSWER = re.compile(r"(run )?(e[0-3]|[0-9]+)( [0-9a-f]+)+$")
 
@@ -67,6 +73,33 @@ def parse_answers(data):
         else:
             answers[-1].calls.append(Call(run, [line]))
     return answers, before
+
+
+def solve_input(case):
+    """The text of a case that is an input of `solve`: it has a budget line and gives no state. Of other cases None."""
+    text = ""
+    for line in case.lines:
+        word, _, rest = line.partition(" ")
+        if word == "line":
+            text += rest + "\n"
+        elif word == "zeros":
+            text += "0" * int(rest, 16)
+        elif word not in ("case", "plain", "guarded") and not word.startswith("#"):
+            return None
+    return text.encode("latin-1") if "plain" in case.lines else None
+
+
+def solve_output(answers):
+    """What `solve` prints for it: the answer's line, then the values of the output."""
+    (call,) = (call for call in answers.calls if call.run == "plain")
+    changes = {}
+    for line in call.lines[1:]:
+        name, *places = line.split(" ")
+        if name != "callee":
+            changes[name] = dict(place.split("=") for place in places)
+    count = int(changes.get("used", {}).get("2", "0"), 16)
+    values = [changes.get("output", {}).get(f"{place:x}", UNUSED) for place in range(count)]
+    return "".join(line + "\n" for line in [call.lines[0].removeprefix("run "), *values])
 
 
 def lines_of(data):

@@ -64,7 +64,7 @@ LISTED_USES = (
 )
 
 # Rules of document 02.
-REQUESTS = ["the earliest malformed frame"]
+REQUESTS = ["the earliest malformed frame", "kilosteps at the half"]
 
 # What must have a fault, in the words of the lines `for:`.
 REQUIRED = (

@@ -8,6 +8,7 @@ pub mod differences;
 pub mod domain;
 pub mod first_list;
 pub mod frames;
+pub mod kilosteps;
 pub mod outcome;
 pub mod replay;
 pub mod splitmix;

@@ -9,6 +9,7 @@ use crate::case::Case;
 use crate::domain::{MOST_CELLS, MOST_OUTPUT, MOST_TAPE};
 use crate::first_list::{cases, SEED};
 use crate::frames::encode;
+use crate::kilosteps::kilosteps;
 use crate::outcome::{Answer, Outcome};
 use crate::state::State;
 use crate::stepper::{Mode, Stepper};
@@ -106,11 +107,10 @@ fn write_answer(text: &mut String, answer: &Answer, after: &State) {
             .to_string(),
         Outcome::Panicked(message) => panic!("a compared step does not panic: {message}"),
     };
-    let kilosteps = (after.clk + 500) / 1000;
     write_line(
         text,
         &label,
-        &[answer.steps, after.pc, after.clk, kilosteps],
+        &[answer.steps, after.pc, after.clk, kilosteps(after.clk)],
     );
     if let Outcome::Calling(callee) | Outcome::DelegateCalling(callee) = &answer.outcome {
         write_line(text, "callee", callee);

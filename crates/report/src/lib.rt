@@ -26,14 +26,22 @@ pub fn used_output(output: &[u64], count: usize) -> &[u64]
     }
 }
 
-// clk / 1000, to nearest, half up, for every word.
+// clk / 1000, to nearest, for every word; an exact half goes to the even thousand.
 pub fn kilosteps(clk: u64) -> u64
     ensures { λ r. ⌜ r ≡ kilosteps clk ⌝ }
 {
-    if clk % 1000 < 500 {
-        clk / 1000
+    let thousands = clk / 1000;
+    let rest = clk % 1000;
+    if rest < 500 {
+        return thousands;
+    }
+    if 500 < rest {
+        return thousands + 1;
+    }
+    if thousands % 2 == 0 {
+        thousands
     } else {
-        clk / 1000 + 1
+        thousands + 1
     }
 }
 

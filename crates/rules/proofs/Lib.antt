@@ -16,6 +16,8 @@ pub mod Refusing
 -- refusals 1, 2 and 3 are the entry's; what 2 carries
 pub mod PastEntry
 pub mod EarliestCarried
+-- kilosteps
+pub mod KilostepsRounded
 -- the tables of cases
 pub mod Unfolding
 pub mod AllCases

@@ -106,9 +106,9 @@ others =
 abbrev pub OthersHold : Type 0
 OthersHold = Hold others
 
--- clk / 1000, to nearest, half up
+-- clk / 1000, to nearest; an exact half goes to the even thousand (document 02, #104)
 abbrev pub KilostepsHold : Type 0
-KilostepsHold = map kilosteps (499 ∷ 500 ∷ 1500 ∷ []) ≡ 0 ∷ 1 ∷ 2 ∷ []
+KilostepsHold = map kilosteps (499 ∷ 500 ∷ 1500 ∷ 2500 ∷ 2501 ∷ []) ≡ 0 ∷ 0 ∷ 2 ∷ 2 ∷ 3 ∷ []
 
 -- the program `solve`: its input, what it prints, and the instructions of its frames
 unfoldable pub listing : List ℕ

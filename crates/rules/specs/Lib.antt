@@ -16,8 +16,9 @@ pub mod Answers
 pub mod Entry
 pub mod Calls
 pub mod Solve
--- statements about them: the frame of refusal 2, demand 3, the plain map, soundness
+-- statements about them: the frame of refusal 2, kilosteps, demand 3, the plain map, soundness
 pub mod MalformedFrames
+pub mod NearestThousand
 pub mod TaintRules
 pub mod SinkRules
 pub mod NonInterference

@@ -1,4 +1,4 @@
--- Kilosteps, and what `solve` prints. Document 01, 'Cases'.
+-- Kilosteps, and what `solve` prints. Document 01, 'Cases'; document 02, #104.
 use Prim.Native.Nat.{ℕ, _+_, _/_, _%_}
 use mathlib.Core.Bool.{Bool}
 use mathlib.Core.List.{List, [], _∷_, _++_}
@@ -11,9 +11,12 @@ use Rattle.rules.specs.Answers.{Meaning, outcome, refusal}
 use Rattle.rules.specs.Entry.{Snapshot, usedOutput}
 use Rattle.rules.specs.Calls.{Called, plainBudgetText}
 
--- clk / 1000, to nearest, half up
+-- clk / 1000, to nearest; an exact half goes to the even thousand (#104)
 unfoldable pub kilosteps : ℕ → ℕ
-kilosteps clk = (clk + 500) / 1000
+kilosteps clk =
+    let q = clk / 1000 in
+    let r = clk % 1000 in
+    choose (ltb r 500) q (choose (ltb 500 r) (q + 1) (q + q % 2))
 
 -- 'e' and ' '
 abbrev letterE : ℕ

@@ -39,6 +39,13 @@ impl Machine {
             }
         }
     }
+
+    fn kilosteps(self, clk: u64) -> u64 {
+        match self {
+            Machine::Library => ola_library::kilosteps(clk),
+            Machine::Model => oracle::kilosteps::kilosteps(clk),
+        }
+    }
 }
 
 pub fn play(machine: Machine) -> Result<(), String> {
@@ -82,7 +89,7 @@ fn repeat(line: &[u8], output: &mut String) {
 /// Step after step, and again in one call; a text with a budget line in one call alone.
 fn play_case(machine: Machine, case: &Case, kind: Run, budget: Option<u64>, output: &mut String) {
     let start = case.lent();
-    let mut transcript = Transcript::new(&start);
+    let mut transcript = Transcript::new(machine, &start);
     let mut lent = start.clone();
     for _ in 0..budget.unwrap_or(0) {
         let answer = machine.call(case.program(Some(1)), &mut lent, kind);

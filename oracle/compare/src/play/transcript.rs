@@ -4,22 +4,27 @@ use std::fmt::Write;
 
 use ola_library::{Answer, Lent};
 
+use super::Machine;
+
 const ENTRY_REFUSALS: u64 = 3;
 
-/// What was last written of each part.
 pub struct Transcript {
+    machine: Machine,
+    /// What was last written of each part.
     shown: Vec<(&'static str, Vec<u64>)>,
 }
 
 impl Transcript {
-    pub fn new(start: &Lent) -> Transcript {
+    pub fn new(machine: Machine, start: &Lent) -> Transcript {
         Transcript {
+            machine,
             shown: parts(start),
         }
     }
 
     pub fn write(&mut self, answer: &Answer, now: &Lent, text: &mut String) {
-        write_answer(answer, now, text);
+        let kilosteps = self.machine.kilosteps(now.machine.clk);
+        write_answer(answer, now, kilosteps, text);
         if answer.steps != 0 {
             // The answer's line has pc and clk.
             let (_, state) = &mut self.shown[1];
@@ -62,9 +67,8 @@ fn parts(lent: &Lent) -> Vec<(&'static str, Vec<u64>)> {
 }
 
 /// The first line that `solve` would print, and the callee.
-fn write_answer(answer: &Answer, now: &Lent, text: &mut String) {
+fn write_answer(answer: &Answer, now: &Lent, kilosteps: u64, text: &mut String) {
     let is_refused = answer.refused == 1;
-    let kilosteps = (now.machine.clk as u128 + 500) / 1000;
     match is_refused {
         true => write!(text, "{}", answer.number).unwrap(),
         false => write!(text, "e{}", answer.number).unwrap(),

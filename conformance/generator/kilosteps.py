@@ -1,0 +1,42 @@
+"""Kilosteps at an exact half and beside it."""
+
+from .case import Case
+from .frames import frame, immediate, register
+from .numbers import CLOCK_END
+
+# Even and odd thousands, up to the last one below the clock's end; among them those where 2^24, 2^31 and 2^32 stand.
+THOUSANDS = sorted(
+    {*range(11), 16776, 16777, 2147483, 2147484, 4294966, 4294967}
+    | {10**power + beside for power in range(2, 9) for beside in (-1, 0, 1)}
+    | {CLOCK_END // 1000 - 2, CLOCK_END // 1000 - 1}
+)
+
+MOVES = frame("MOV", op1=immediate(5), dst=register(1)) * 3
+
+# A last step of each kind: its frame, and the run that shows it.
+LASTS = {
+    "END": (frame("END"), "plain"),
+    "SCCALL": (frame("SCCALL", immediate(1), immediate(0)), "plain"),
+    "SCCALL that delegates": (frame("SCCALL", immediate(1), immediate(1)), "plain"),
+    "MOV": (MOVES[:2], "plain"),
+    "RC that is refused": (frame("RC", op1=immediate(1 << 32)), "plain"),
+    "RC of a marked number": (frame("RC", op1=register(2)), "guarded"),
+}
+
+
+def cases():
+    for thousands in THOUSANDS:
+        clk = 1000 * thousands + 498
+        yield Case(f"three steps over the half, from clk {clk:x}", MOVES, clk=clk, runs=[("plain", 3), ("guarded", 3)])
+    for thousands in (0, 1, 2, 3, CLOCK_END // 1000 - 2, CLOCK_END // 1000 - 1):
+        for name, (words, run) in LASTS.items():
+            for rest in (499, 500):
+                clk = 1000 * thousands + rest
+                yield Case(
+                    f"{name}, clk {clk:x}",
+                    words,
+                    register_marks=1 << 2,
+                    clk=clk,
+                    cells={1: 0xA1, 2: 0xA2, 3: 0xA3, 4: 0xA4},
+                    runs=[(run, 1), (run, 0)],
+                )
