@@ -8,7 +8,8 @@ use oracle::splitmix::SplitMix64;
 #[test]
 fn the_papers_numbers() {
     for (clk, thousands) in [(499, 0), (500, 0), (1500, 2), (2500, 2), (2501, 3)] {
-        assert_eq!((kilosteps(clk), model(clk)), (thousands, thousands), "{clk}");
+        assert_eq!(kilosteps(clk), thousands, "{clk}");
+        assert_eq!(model(clk), thousands, "{clk}");
     }
 }
 
