@@ -34,7 +34,7 @@ def arguments():
     parser.add_argument("--only", metavar="NAME", choices=vectors.NAMES, help="one of: " + ", ".join(vectors.NAMES))
     parser.add_argument("--all", action="store_true", help="show every case that fails, not only the first")
     parser.add_argument("--solve", action="store_true", help="the command is a program `solve`: run it on each case that is an input of it")
-    parser.add_argument("--seconds", type=int, default=600, metavar="N", help="how long a file of vectors may take; by default 600")
+    parser.add_argument("--seconds", type=int, default=600, metavar="N", help="how long one run of the command may take; by default 600")
     parser.add_argument("command", nargs=argparse.REMAINDER, metavar="COMMAND", help="the implementation, with its arguments")
     options = parser.parse_args()
     if not options.command:
@@ -77,7 +77,7 @@ def check_solve(name, options):
         if (found, trouble) == (wanted, []):
             good += 1
         else:
-            differences.append(lambda case=case, wanted=wanted, found=found, trouble=trouble: show_solve(name, case, wanted, found, trouble))
+            differences.append(lambda shown=(name, case, wanted, found, trouble): show_solve(*shown))
     return good, differences
 
 
@@ -120,9 +120,15 @@ def show_solve(name, case, wanted, found, trouble):
     """An input of `solve` that fails, with what is expected, what is written, and what else is wrong."""
     show_case(name, case)
     for what, text in (("expected", wanted), ("written", found)):
-        lines = [readable(line) for line in text.split("\n")]
-        print(f"\n{what}:\n  " + "\n  ".join(lines[:-1] + [f"{lines[-1]} (no line feed)"] * (lines[-1] != "") or ["nothing"]))
+        print(f"\n{what}:")
+        print("\n".join("  " + line for line in printed(text)) or "  nothing")
     print("".join(f"\n{what}" for what in trouble))
+
+
+def printed(text):
+    """The lines of a text, and a rest that no line feed ends."""
+    *lines, rest = [readable(line) for line in text.split("\n")]
+    return [*lines, f"{rest} (no line feed)"] if rest else lines
 
 
 def show_case(name, case):

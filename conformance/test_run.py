@@ -8,8 +8,8 @@ from pathlib import Path
 
 HERE = Path(__file__).parent
 ANSWERS = HERE / "vectors" / "worked.answers"
-CASES = 491
-SOLVE_INPUTS = 31
+CASES = 497
+SOLVE_INPUTS = 37
 
 
 def run(change, options=()):
@@ -91,10 +91,10 @@ class Runner(unittest.TestCase):
 class Solve(unittest.TestCase):
     """Programs `solve` that know one answer, that of document 01's listing."""
 
-    def passed(self, prints, count, *options):
+    def passed(self, prints, count, ends=0):
         """So many inputs pass; what is shown."""
-        program = f"import sys; sys.stdin.buffer.read(); sys.stdout.write({prints!r})"
-        status, lines = play(program, ["--solve", "--all", *options])
+        program = f"import sys; sys.stdin.buffer.read(); sys.stdout.write({prints!r}); sys.exit({ends})"
+        status, lines = play(program, ["--solve", "--all"])
         self.assertEqual((status, lines[-1]), (1, f"{count} passed, {SOLVE_INPUTS - count} failed"))
         return "\n".join(lines)
 
@@ -111,6 +111,9 @@ class Solve(unittest.TestCase):
 
     def test_nothing_is_printed(self):
         self.assertIn("written:\n  nothing\n", self.passed("", 0))
+
+    def test_a_status(self):
+        self.assertIn("the command ended with status 3", self.passed("e0 5 8 5 0\na\n", 0, ends=3))
 
     def test_no_input_of_solve(self):
         command = [sys.executable, str(HERE / "run.py"), "--solve", "--only", "replayed", "true"]

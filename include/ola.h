@@ -192,8 +192,7 @@ void ola_tainted_check_budget_text(const uint8_t *text, size_t text_length, cons
                                    size_t taints_length, const uint64_t *tape, size_t tape_length,
                                    const uint64_t *output, size_t output_length, ola_answer *answer);
 
-/* The league's unit: clk / 1000, to the nearest; an exact half goes to the even thousand. 499 and 500 give 0, 1500 and 2500 give 2, 2501 gives
- * 3. For every clk. */
+/* The league's unit: clk / 1000, to the nearest, half to even, for every clk. 499 and 500 give 0, 1500 and 2500 give 2, 2501 gives 3. */
 uint64_t ola_kilosteps(uint64_t clk);
 
 #ifdef __cplusplus

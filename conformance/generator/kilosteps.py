@@ -11,14 +11,14 @@ THOUSANDS = sorted(
     | {CLOCK_END // 1000 - 2, CLOCK_END // 1000 - 1}
 )
 
-MOVES = frame("MOV", op1=immediate(5), dst=register(1)) * 3
+MOVE = frame("MOV", op1=immediate(5), dst=register(1))
 
 # A last step of each kind: its frame, and the run that shows it.
 LASTS = {
     "END": (frame("END"), "plain"),
     "SCCALL": (frame("SCCALL", immediate(1), immediate(0)), "plain"),
     "SCCALL that delegates": (frame("SCCALL", immediate(1), immediate(1)), "plain"),
-    "MOV": (MOVES[:2], "plain"),
+    "MOV": (MOVE, "plain"),
     "RC that is refused": (frame("RC", op1=immediate(1 << 32)), "plain"),
     "RC of a marked number": (frame("RC", op1=register(2)), "guarded"),
 }
@@ -27,7 +27,7 @@ LASTS = {
 def cases():
     for thousands in THOUSANDS:
         clk = 1000 * thousands + 498
-        yield Case(f"three steps over the half, from clk {clk:x}", MOVES, clk=clk, runs=[("plain", 3), ("guarded", 3)])
+        yield Case(f"three steps over the half, from clk {clk:x}", MOVE * 3, clk=clk, runs=[("plain", 3), ("guarded", 3)])
     for thousands in (0, 1, 2, 3, CLOCK_END // 1000 - 2, CLOCK_END // 1000 - 1):
         for name, (words, run) in LASTS.items():
             for rest in (499, 500):

@@ -387,7 +387,7 @@ pub fn check_tainted(program: Program, lent: &Lent) -> Answer {
     answer
 }
 
-/// clk / 1000, to the nearest; an exact half goes to the even thousand. 499 and 500 give 0, 1500 and 2500 give 2, 2501 gives 3. For every clk.
+/// The league's unit: clk / 1000, to the nearest, half to even, for every clk. 499 and 500 give 0, 1500 and 2500 give 2, 2501 gives 3.
 pub fn kilosteps(clk: u64) -> u64 {
     // SAFETY: a function of a number.
     unsafe { c::ola_kilosteps(clk) }

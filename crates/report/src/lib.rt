@@ -26,7 +26,7 @@ pub fn used_output(output: &[u64], count: usize) -> &[u64]
     }
 }
 
-// clk / 1000, to nearest, for every word; an exact half goes to the even thousand.
+// clk / 1000, to nearest, half to even, for every word.
 pub fn kilosteps(clk: u64) -> u64
     ensures { λ r. ⌜ r ≡ kilosteps clk ⌝ }
 {

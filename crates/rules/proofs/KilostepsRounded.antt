@@ -28,15 +28,15 @@ module _ (clk : ℕ) where
       go : (b : Bool) → ltb (clk % 1000) 500 ≡ b → (c : Bool) → ltb 500 (clk % 1000) ≡ c → Nearest clk (kilosteps clk)
       go true e c f =
           let h = ltb-true (clk % 1000) 500 e in
-          let k = below-half h in
+          let is = below-half h in
           record { near = omega arith; evenAtHalf = λ half. omega arith }
       go false e true f =
           let h = ltb-true 500 (clk % 1000) f in
-          let k = above-half h in
+          let is = above-half h in
           record { near = omega arith; evenAtHalf = λ half. omega arith }
       go false e false f =
           let h : clk % 1000 ≡ 500 = omega (arith, ltb-false (clk % 1000) 500 e, ltb-false 500 (clk % 1000) f) in
-          let k = at-half h in
+          let is = at-half h in
           record { near = omega arith; evenAtHalf = λ half. omega arith }
 
 -- two thousands that differ are as near only at a half, and not both even

@@ -106,7 +106,7 @@ others =
 abbrev pub OthersHold : Type 0
 OthersHold = Hold others
 
--- clk / 1000, to nearest; an exact half goes to the even thousand (document 02, #104)
+-- clk / 1000, to nearest, half to even: document 02, #104, in the place of document 01's half up
 abbrev pub KilostepsHold : Type 0
 KilostepsHold = map kilosteps (499 ∷ 500 ∷ 1500 ∷ 2500 ∷ 2501 ∷ []) ≡ 0 ∷ 0 ∷ 2 ∷ 2 ∷ 3 ∷ []
 

@@ -3,7 +3,7 @@ use Prim.Native.Nat.{ℕ, _+_, _*_, _-_, _%_, _≤_}
 use mathlib.Core.Path.{_≡_}
 use Rattle.rules.specs.Solve.{kilosteps}
 
--- by how much two numbers differ; subtraction stops at 0, so one of the two is 0
+-- by how much two numbers differ; subtraction stops at 0, so that one of the terms is 0
 abbrev pub difference : ℕ → ℕ → ℕ
 difference a b = (a - b) + (b - a)
 

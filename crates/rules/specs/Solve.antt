@@ -11,7 +11,7 @@ use Rattle.rules.specs.Answers.{Meaning, outcome, refusal}
 use Rattle.rules.specs.Entry.{Snapshot, usedOutput}
 use Rattle.rules.specs.Calls.{Called, plainBudgetText}
 
--- clk / 1000, to nearest; an exact half goes to the even thousand (#104)
+-- clk / 1000, to nearest, half to even (#104)
 unfoldable pub kilosteps : ℕ → ℕ
 kilosteps clk =
     let q = clk / 1000 in
