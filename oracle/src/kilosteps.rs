@@ -1,4 +1,4 @@
-//! The league's unit, written from document 02, #104, alone.
+//! The league's unit (document 02, #104), by distances: nothing of it is the library's.
 
 use std::cmp::Ordering;
 
