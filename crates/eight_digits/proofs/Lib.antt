@@ -1,0 +1,5 @@
+-- The number of eight digits by arithmetic on the whole word.
+pub mod Lanes
+pub mod Bytewise
+pub mod Squeeze
+pub mod Together

@@ -1,0 +1,26 @@
+// Eight characters that stand in one word, the first in the highest byte, read as the hexadecimal number of their digits: all eight at once.
+use rules::HexWord;
+ghost use mathlib.Core.Path.{_≡_};
+ghost use Rattle.eight_digits.specs.EightDigits.{eightDigits};
+
+// The number of the eight digits.
+//
+// Every sum and difference below stays within its byte, whatever the characters are. Only a letter's byte has bit 6. Moved down by 0x27,
+// 'a' comes right after '9', so that the digits are 0x30 to 0x3f in their order; and a moved character plus 6 has bit 6 exactly from 'a' on,
+// which must be as before.
+pub fn number(w: u64) -> HexWord
+    ensures { λ r. ⌜ r ≡ eightDigits w ⌝ }
+{
+    let letters = (w / 0x40) & 0x0101_0101_0101_0101;
+    let moved = w - letters * 0x27;
+    let digits = moved ^ 0x3030_3030_3030_3030;
+    let past_nine = moved + 0x0606_0606_0606_0606;
+    let wrong = (digits & 0xf0f0_f0f0_f0f0_f0f0) | ((past_nine ^ w) & 0x4040_4040_4040_4040);
+    if wrong != 0 {
+        return HexWord::NotHex;
+    }
+    // a digit in each byte; then two digits in every second byte, four in every fourth, eight
+    let twos = (digits + digits / 0x10) & 0x00ff_00ff_00ff_00ff;
+    let fours = (twos + twos / 0x100) & 0x0000_ffff_0000_ffff;
+    HexWord::Word((fours + fours / 0x1_0000) & 0xffff_ffff)
+}
