@@ -15,6 +15,7 @@ use Rattle.rules.specs.Numbers.{choose}
 use Rattle.rules.specs.Hexadecimal.{digitOf, onDigit, digitsOf}
 use Rattle.rules.proofs.Computed.{every, at}
 use Rattle.eight_digits.specs.EightDigits.{byte, characters, eightDigits}
+use Rattle.eight_digits.proofs.Appending.{digits-snoc}
 use Rattle.eight_digits.proofs.Lanes.{lanes, rep, rep-lanes, id-lanes, same-lanes, add-lanes, times-39-lanes, lanes-lt, tested, and-lanes, or-lanes, xor-lanes}
 use Rattle.eight_digits.proofs.Squeeze.{pack}
 
@@ -161,22 +162,10 @@ eight-chars w =
     (ap (λ (k : ℕ). byte 7 w ∷ byte 6 w ∷ byte 5 w ∷ byte 4 w ∷ byte 3 w ∷ byte 2 w ∷ byte 1 w ∷ k % 256 ∷ []) e₀)
 
 -- one more character at the end
-onDigits : HexWord → HexWord → HexWord
+abbrev onDigits : HexWord → HexWord → HexWord
 onDigits m d = onDigit m (λ k. onDigit d (λ v. Word (k * 16 + v)))
 
-digits-snoc : (cs : List ℕ) (n c : ℕ) → digitsOf n (cs ++ (c ∷ [])) ≡ onDigits (digitsOf n cs) (digitOf c)
-unfolding digitsOf onDigits
-digits-snoc [] n c = refl
-digits-snoc (b ∷ cs) n c = go (λ m. digits-snoc cs m c) (digitOf b)
-  where
-    go : ((m : ℕ) → digitsOf m (cs ++ (c ∷ [])) ≡ onDigit (digitsOf m cs) (λ k. onDigit (digitOf c) (λ v. Word (k * 16 + v))))
-        → (b : HexWord)
-        → onDigit b (λ v. digitsOf (n * 16 + v) (cs ++ (c ∷ []))) ≡ onDigit (onDigit b (λ v. digitsOf (n * 16 + v) cs)) (λ k. onDigit (digitOf c) (λ v. Word (k * 16 + v)))
-    go ih NotHex = refl
-    go ih (Word v) = ih (n * 16 + v)
-
 join : (l b p d : ℕ) → onDigits (choose (eqb l 0) (Word p) NotHex) (choose (eqb b 0) (Word d) NotHex) ≡ choose (eqb (l * 256 + b) 0) (Word (p * 16 + d)) NotHex
-unfolding onDigits
 join l b p d = go (eqb l 0) (eqb b 0) refl refl
   where
     go : (s t : Bool) → eqb l 0 ≡ s → eqb b 0 ≡ t → onDigits (choose s (Word p) NotHex) (choose t (Word d) NotHex) ≡ choose (eqb (l * 256 + b) 0) (Word (p * 16 + d)) NotHex

@@ -1,7 +1,9 @@
 // Eight characters that stand in one word, the first in the highest byte, read as the hexadecimal number of their digits: all eight at once.
 use rules::HexWord;
 ghost use mathlib.Core.Path.{_≡_};
-ghost use Rattle.eight_digits.specs.EightDigits.{eightDigits};
+ghost use Prim.Native.Nat.{_+_, _*_};
+ghost use mathlib.Core.List.{[], _∷_};
+ghost use Rattle.eight_digits.specs.EightDigits.{characters, eightDigits};
 
 // The number of the eight digits.
 //
@@ -23,4 +25,18 @@ pub fn number(w: u64) -> HexWord
     let twos = (digits + digits / 0x10) & 0x00ff_00ff_00ff_00ff;
     let fours = (twos + twos / 0x100) & 0x0000_ffff_0000_ffff;
     HexWord::Word((fours + fours / 0x1_0000) & 0xffff_ffff)
+}
+
+// Four characters in one word, the first in the highest byte.
+fn four(a: u8, b: u8, c: u8, d: u8) -> u32
+    ensures { λ r. ⌜ r ≡ ((a * 256 + b) * 256 + c) * 256 + d ⌝ }
+{
+    ((a as u32 * 256 + b as u32) * 256 + c as u32) * 256 + d as u32
+}
+
+// Eight characters in one word, the first in the highest byte.
+pub fn packed(a: u8, b: u8, c: u8, d: u8, e: u8, f: u8, g: u8, h: u8) -> u64
+    ensures { λ r. ⌜ characters r ≡ a ∷ b ∷ c ∷ d ∷ e ∷ f ∷ g ∷ h ∷ [] ⌝ }
+{
+    four(a, b, c, d) as u64 * 0x1_0000_0000 + four(e, f, g, h) as u64
 }

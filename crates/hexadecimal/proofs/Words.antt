@@ -9,23 +9,11 @@ use lib.Arith.{mod-mul}
 use lib.Dec.{ltb, eqb}
 use lib.ListN.{length, length-append}
 use borrow.Author.Tests.{eq-eqb, eqb-true, ltb-true, ltb-false}
-use Rattle.rules.specs.declared.HexWord.{HexWord}
 use Rattle.rules.specs.declared.HexWord.the-variants.{Word, NotHex}
 use Rattle.rules.specs.Numbers.{choose}
 use Rattle.rules.specs.Hexadecimal.{digitOf, onDigit, digitsOf, wordOf, digitChar, lowDigits, digits16, digitCount, shortestHex}
-use Rattle.hexadecimal.proofs.Digits.{decimal, letter, digit-lt}
-
--- one more digit at the end
-digits-snoc : (cs : List ℕ) (n c : ℕ) → digitsOf n (cs ++ (c ∷ [])) ≡ onDigit (digitsOf n cs) (λ m. onDigit (digitOf c) (λ d. Word (m * 16 + d)))
-unfolding digitsOf
-digits-snoc [] n c = refl
-digits-snoc (b ∷ cs) n c = go (λ m. digits-snoc cs m c) (digitOf b)
-  where
-    go : ((m : ℕ) → digitsOf m (cs ++ (c ∷ [])) ≡ onDigit (digitsOf m cs) (λ k. onDigit (digitOf c) (λ d. Word (k * 16 + d))))
-        → (b : HexWord)
-        → onDigit b (λ v. digitsOf (n * 16 + v) (cs ++ (c ∷ []))) ≡ onDigit (onDigit b (λ v. digitsOf (n * 16 + v) cs)) (λ m. onDigit (digitOf c) (λ d. Word (m * 16 + d)))
-    go ih NotHex = refl
-    go ih (Word v) = ih (n * 16 + v)
+use Rattle.eight_digits.proofs.Appending.{digits-snoc}
+use Rattle.hexadecimal.proofs.Digits.{decimal, letter}
 
 pub char-digit : (d : ℕ) → d < 16 → digitOf (digitChar d) ≡ Word d
 char-digit d h = go (ltb d 10) refl

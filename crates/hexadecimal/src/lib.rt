@@ -2,9 +2,9 @@
 // touch nothing else. All four are public and take any arguments; the other functions are private.
 use rules::HexWord;
 ghost use mathlib.Core.Path.{_≡_};
-ghost use Prim.Native.Nat.{_<_};
-ghost use lib.ListN.{take, drop};
-ghost use Rattle.rules.specs.Hexadecimal.{digitOf, wordOf, digitChar, lowDigits, digits16, digitCount, shortestHex};
+ghost use Prim.Native.Nat.{_+_, _<_, _≤_};
+ghost use lib.ListN.{length, take, drop};
+ghost use Rattle.rules.specs.Hexadecimal.{digitOf, digitsOf, wordOf, digitChar, lowDigits, digits16, digitCount, shortestHex};
 ghost use Rattle.hexadecimal.specs.Writing.{Writes};
 
 // The value of a digit.
@@ -18,6 +18,23 @@ pub fn digit(c: u8) -> HexWord
     }
 }
 
+// The number of the eight digits from a place on.
+fn eight(s: &[u8], at: usize) -> HexWord
+    requires { ⌜ at + 8 ≤ length (now s) ⌝ }
+    ensures { λ r. ⌜ r ≡ digitsOf 0 (take 8 (drop at (now (s .entry)))) ⌝ }
+{
+    eight_digits::number(eight_digits::packed(
+        s[at],
+        s[at + 1],
+        s[at + 2],
+        s[at + 3],
+        s[at + 4],
+        s[at + 5],
+        s[at + 6],
+        s[at + 7],
+    ))
+}
+
 // The word that stands in the sixteen characters from a place on.
 pub fn word(s: &[u8], at: usize) -> HexWord
     ensures { λ r. ⌜ r ≡ wordOf (take 16 (drop at (now (s .entry)))) ⌝ }
@@ -25,17 +42,13 @@ pub fn word(s: &[u8], at: usize) -> HexWord
     if s.len() < 16 || s.len() - 16 < at {
         return HexWord::NotHex;
     }
-    let mut n: u64 = 0;
-    let mut i: usize = 0;
-    while i < 16 {
-        let d = digit(s[at + i]);
-        let HexWord::Word(v) = d else {
-            return HexWord::NotHex;
-        };
-        n = n * 16 + v;
-        i += 1;
-    }
-    HexWord::Word(n)
+    let HexWord::Word(high) = eight(s, at) else {
+        return HexWord::NotHex;
+    };
+    let HexWord::Word(low) = eight(s, at + 8) else {
+        return HexWord::NotHex;
+    };
+    HexWord::Word(high * 0x1_0000_0000 + low)
 }
 
 // What writing into a buffer gives: the place after the last character, or no space, and then nothing is written.
