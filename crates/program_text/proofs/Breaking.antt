@@ -55,7 +55,7 @@ runs-out-first (c ∷ cs) p e =
     (λ f. let e′ : zero ≡ suc (length cs) = rw f at e in absurd (omega arith))
     (λ f. let e′ : suc (lineLength cs) ≡ suc (length cs) = rw f at e in rw f (runs-out c [] cs (omega arith)))
 
-length-le : (t : List ℕ) → lineLength t ≤ length t
+pub length-le : (t : List ℕ) → lineLength t ≤ length t
 length-le [] = omega arith
 length-le (c ∷ cs) = cases (eqb c lineFeed) (λ e. rw e (omega arith)) (λ e. let h = length-le cs in rw e (omega arith))
 

@@ -29,7 +29,7 @@ cons-length NotHex r n k ws e = absurd (never ws e)
 cons-length (Word v) none n k ws e = absurd (never ws e)
 cons-length (Word v) (some vs) n k ws e = let f : v ∷ vs ≡ ws = cc in ap length (sym f) ∙ ap suc (k vs refl)
 
-joined-length : (n : ℕ) (l ws : List ℕ) → joinedWords n l ≡ some ws → length ws ≡ n
+pub joined-length : (n : ℕ) (l ws : List ℕ) → joinedWords n l ≡ some ws → length ws ≡ n
 unfolding joinedWords
 joined-length zero l ws e = let f : [] ≡ ws = cc in ap length (sym f)
 joined-length (suc n) l ws e = cons-length (wordOf (take 16 l)) (joinedWords n (drop 16 l)) n (joined-length n (drop 16 l)) ws e

@@ -53,6 +53,7 @@ module _ (text before after : List ℕ) (at end used count w : ℕ) (order : at 
         fits = h .fits;
         words = sym (ap (λ (v : ℕ). suc (valueCount v)) (h .first));
         whole = h .whole;
+        long = whole;
         kept = k;
         size = r .2;
       })

@@ -11,7 +11,7 @@ ghost use lib.ListN.{length, take, drop};
 ghost use Rattle.rules.specs.declared.Refusal.the-variants.{BadLength, MalformedFrame};
 ghost use Rattle.rules.specs.Numbers.{choose};
 ghost use Rattle.rules.specs.Text.{linesOf};
-ghost use Rattle.program_text.specs.Lines.{lineLength, ReadsWords, ReadsLine};
+ghost use Rattle.program_text.specs.Lines.{lineLength, FrameEnd, ReadsWords, ReadsLine, ReadsFrame};
 
 // What a line holds: the words of a frame, or it is malformed.
 pub(crate) enum Line {
@@ -32,6 +32,27 @@ pub(crate) fn line_end(text: &[u8], at: usize) -> usize
         i += 1;
     }
     i
+}
+
+// Where the line of a frame ends: at the first line feed that stands 16, 32, 48 or 64 characters after its start. Where there is none the
+// line is no frame's; then it is the text's end.
+fn frame_end(text: &[u8], at: usize) -> usize
+    requires { ⌜ at ≤ length (now text) ⌝ }
+    ensures { λ r. ⌜ FrameEnd (now (text .entry)) at r ⌝ }
+{
+    let mut end = at;
+    let mut left: usize = 4;
+    while 0 < left {
+        if text.len() - end <= 16 {
+            return text.len();
+        }
+        end = end + 16;
+        if text[end] == b'\n' {
+            return end;
+        }
+        left = left - 1;
+    }
+    text.len()
 }
 
 // Are there more lines than `limit` from a place on?
@@ -66,6 +87,18 @@ pub(crate) fn malformed(text: &[u8], next: usize, number: usize) -> Refusal
     Refusal::MalformedFrame(number as u64)
 }
 
+// The same of the line at a place, after frames that are well formed.
+pub(crate) fn malformed_line(text: &[u8], at: usize, frames: usize) -> Refusal
+    requires { ⌜ (at < length (now text)) × (frames < 512) ⌝ }
+    ensures { λ r. ⌜ r ≡ choose (leb (frames + length (linesOf (drop at (now (text .entry))))) 512) (MalformedFrame (frames + 1)) BadLength ⌝ }
+{
+    let end = line_end(text, at);
+    if end == text.len() {
+        return Refusal::MalformedFrame(frames as u64 + 1);
+    }
+    malformed(text, end + 1, frames + 1)
+}
+
 // Reads words of 16 digits each from a place on into the buffer; false where some character is no digit.
 fn read_words(text: &[u8], at: usize, count: usize, words: &mut [u64; 2048], used: usize) -> bool
     requires { ⌜ at + 16 * count ≤ length (now text) ⌝ }
@@ -85,13 +118,7 @@ fn read_words(text: &[u8], at: usize, count: usize, words: &mut [u64; 2048], use
 
 // Reads a line, from its start to its line feed. How many words it must have is known from the first, so that no more is read of a
 // longer one.
-pub(crate) fn read_line(
-    text: &[u8],
-    at: usize,
-    end: usize,
-    words: &mut [u64; 2048],
-    used: usize,
-) -> Line
+fn read_line(text: &[u8], at: usize, end: usize, words: &mut [u64; 2048], used: usize) -> Line
     requires { ⌜ (at ≤ end) × (end ≤ length (now text)) ⌝ }
     requires { ⌜ (used + 4 ≤ 2048) × (length (now words) ≡ 2048) ⌝ }
     ensures { λ r. ⌜ ReadsLine (take (end - at) (drop at (now (text .entry)))) used (now (words .entry)) (now (words .exit)) r ⌝ }
@@ -114,4 +141,18 @@ pub(crate) fn read_line(
         return Line::Malformed;
     }
     Line::Words(count)
+}
+
+// Reads the line at a place, if it is ended and a frame's. Its digits are read once: that no line feed stands among them need not be
+// looked for.
+pub(crate) fn read_frame(text: &[u8], at: usize, words: &mut [u64; 2048], used: usize) -> Line
+    requires { ⌜ at < length (now text) ⌝ }
+    requires { ⌜ (used + 4 ≤ 2048) × (length (now words) ≡ 2048) ⌝ }
+    ensures { λ r. ⌜ ReadsFrame (now (text .entry)) at used (now (words .entry)) (now (words .exit)) r ⌝ }
+{
+    let end = frame_end(text, at);
+    if end == text.len() {
+        return Line::Malformed;
+    }
+    read_line(text, at, end, words, used)
 }

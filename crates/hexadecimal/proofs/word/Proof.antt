@@ -22,7 +22,6 @@ returns c =
     let h : length (now (a .s)) < a .at + 16 = ⊎-elim (λ w. omega arith) (λ w. omega (arith, ltb-true)) (c .if1 .came) in
     sym (too-short (now (a .s)) (a .at) h)
 
-
 -- past the tests sixteen characters are there
 inside : (c : tie.Else2) → c .before .before .before .args .at + 16 ≤ length (now (c .before .before .before .args .s))
 inside c = omega (arith, ltb-false)
