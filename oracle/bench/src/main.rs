@@ -1,5 +1,6 @@
 //! The library's speed, beside the Rust `resume` and the yardstick: tables to stdout, progress to stderr, a picture where one is asked for.
 
+mod before;
 mod chart;
 mod contenders;
 mod entry;
@@ -9,6 +10,7 @@ mod lent;
 mod programs;
 mod stack;
 mod steps;
+mod text;
 mod timing;
 mod yardstick;
 
@@ -17,19 +19,23 @@ use std::fs;
 use std::process::ExitCode;
 use std::thread;
 
-const HELP: &str = "\
-usage: bench [--only PART] [--plot FILE]
+use before::Before;
 
-  --only PART  only one of the parts: steps, entry, interface, growth, stack
-  --plot FILE  writes the part growth into FILE too, as a picture (SVG)
-  --help       prints this
+const HELP: &str = "\
+usage: bench [--only PART] [--plot FILE] [--before FILE]
+
+  --only PART    only one of the parts: steps, entry, text, interface, growth, stack
+  --plot FILE    writes the part growth into FILE too, as a picture (SVG)
+  --before FILE  an older build of the library, as a shared object: the part text measures it beside the present one
+  --help         prints this
 ";
 
-const PARTS: [&str; 5] = ["steps", "entry", "interface", "growth", "stack"];
+const PARTS: [&str; 6] = ["steps", "entry", "text", "interface", "growth", "stack"];
 
 struct Options {
     only: Option<String>,
     plot: Option<String>,
+    before: Option<String>,
 }
 
 /// `None` where the help is asked for.
@@ -37,6 +43,7 @@ fn options() -> Result<Option<Options>, String> {
     let mut options = Options {
         only: None,
         plot: None,
+        before: None,
     };
     let mut arguments = args().skip(1);
     while let Some(argument) = arguments.next() {
@@ -44,6 +51,7 @@ fn options() -> Result<Option<Options>, String> {
         match argument.as_str() {
             "--only" => options.only = Some(value()?),
             "--plot" => options.plot = Some(value()?),
+            "--before" => options.before = Some(value()?),
             "--help" => return Ok(None),
             _ => return Err(format!("{argument} is no option")),
         }
@@ -65,6 +73,7 @@ fn heading() -> String {
 
 fn measure(options: &Options) -> Result<(), String> {
     let wanted = |part: &str| options.only.as_ref().is_none_or(|only| only == part);
+    let before = options.before.as_deref().map(Before::load).transpose()?;
     println!("{}\n", heading());
     if wanted("steps") {
         println!("## Steps\n\nNanoseconds a step.\n\n{}", steps::table());
@@ -73,6 +82,12 @@ fn measure(options: &Options) -> Result<(), String> {
         println!(
             "## Entry\n\nNanoseconds a call with budget 1.\n\n{}",
             entry::table()
+        );
+    }
+    if wanted("text") {
+        println!(
+            "## Text\n\nNanoseconds.\n\n{}",
+            text::tables(before.as_ref())
         );
     }
     if wanted("interface") {

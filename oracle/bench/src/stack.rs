@@ -4,11 +4,12 @@ use std::hint::black_box;
 use std::thread;
 
 use ola_library::{run, run_tainted, Lent, Program};
-use oracle::frames::{encode, Frame};
+use oracle::frames::encode;
 use oracle::state::State;
 
 use crate::lent::lent;
 use crate::programs;
+use crate::text::as_text;
 
 const STACK: usize = 4 << 20;
 /// Words below the call that are painted: more than any call takes, less than the stack has.
@@ -46,14 +47,6 @@ pub fn table() -> String {
         table += &format!("| {name} | {used} |\n");
     }
     table
-}
-
-fn as_text(frames: &[Frame]) -> String {
-    let line = |frame: &Frame| -> String {
-        let words = frame.words();
-        words.iter().map(|word| format!("{word:016x}")).collect()
-    };
-    frames.iter().map(|frame| line(frame) + "\n").collect()
 }
 
 /// In a thread of its own, whose stack is known to be large enough.

@@ -11,6 +11,7 @@ use oracle::frames::{encode, Frame, Operand, OPCODES};
 use oracle::splitmix::SplitMix64;
 
 use crate::lent::lent;
+use crate::text::as_text;
 
 const SEED: u64 = 0x9E37_79B9_7F4A_7C15;
 const RANDOM: usize = 200_000;
@@ -83,6 +84,40 @@ fn on_random_programs() {
         met.into_iter().eq(outcomes.chain(refusals)),
         "not every answer was met"
     );
+}
+
+/// Lines of frames, some of them damaged at one character, cut, or one line too many.
+#[test]
+fn on_random_texts() {
+    let mut random = SplitMix64::new(SEED);
+    let mut met = BTreeSet::new();
+    for number in 0..RANDOM {
+        let start = random_start(&mut random);
+        let mut text = as_text(&random_program(&mut random)).into_bytes();
+        if random.percent(1) {
+            text = b"000000000000000b\n".repeat(510 + random.below(5) as usize);
+        }
+        if !text.is_empty() && random.percent(40) {
+            let place = random.below(text.len() as u64) as usize;
+            text[place] = random.pick(b"\n0g:/`@G\0\xB0");
+        }
+        if random.percent(10) {
+            text.truncate(random.below(text.len() as u64 + 1) as usize);
+        }
+        let budget = random.below(40);
+        let mut by_library = start.clone();
+        let mut by_yardstick = start;
+        let program = Program::Text {
+            text: &text,
+            budget,
+        };
+        let wanted = ola_library::run(program, &mut by_library);
+        let answer = super::run_text(&text, budget, &mut by_yardstick);
+        assert_eq!(answer, wanted, "text {number}");
+        assert_eq!(by_yardstick, by_library, "text {number}");
+        met.insert((answer.refused, answer.number));
+    }
+    assert!(met.contains(&(1, 1)) && met.contains(&(1, 2)) && met.contains(&(0, 3)));
 }
 
 #[test]
