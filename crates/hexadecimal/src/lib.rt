@@ -1,5 +1,6 @@
 // Words as text, in the digits 0-9a-f: `digit` and `word` read, `put_shortest` and `put_16` write into a buffer that the caller lends, and
-// touch nothing else. All four are public and take any arguments; the other functions are private.
+// touch nothing else. All four are public and take any arguments.
+// Internal, for the crates above: `eight`. The other functions are private.
 use rules::HexWord;
 ghost use mathlib.Core.Path.{_≡_};
 ghost use Prim.Native.Nat.{_+_, _<_, _≤_};
@@ -18,8 +19,8 @@ pub fn digit(c: u8) -> HexWord
     }
 }
 
-// The number of the eight digits from a place on.
-fn eight(s: &[u8], at: usize) -> HexWord
+// The number of the eight digits from a place on, which are there. Internal: two of them are a word, for a caller that reads many.
+pub fn eight(s: &[u8], at: usize) -> HexWord
     requires { ⌜ at + 8 ≤ length (now s) ⌝ }
     ensures { λ r. ⌜ r ≡ digitsOf 0 (take 8 (drop at (now (s .entry)))) ⌝ }
 {

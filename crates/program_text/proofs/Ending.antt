@@ -186,6 +186,13 @@ frame-line l i e =
         let v = value-count-le (getD ws 0 0) in
         record { n = length l / 16; least = omega arith; most = omega arith; whole = omega arith; ws = ws; joined = j }
 
+pub no-frame-line : (l : List ℕ) → ((n : ℕ) → 1 ≤ n → n ≤ 4 → length l ≡ 16 * n → ⊥) → frameOfLine (ended l) ≡ Malformed
+no-frame-line l f = go (frameOfLine (ended l)) refl
+  where
+    go : (x : Frame) → frameOfLine (ended l) ≡ x → frameOfLine (ended l) ≡ Malformed
+    go Malformed e = e
+    go (Holds i) e = let r = frame-line l i e in absurd (f (r .n) (r .least) (r .most) (r .whole))
+
 -- The line at a place
 
 module _ (text : List ℕ) (at end : ℕ) (f : FrameEnd text at end) where

@@ -75,34 +75,3 @@ joined-all {t} {before} {words} {count} {used} {i} j h =
     let z : count - i ≡ 0 = omega arith in
     let n : i ≡ count = omega arith in
     j .joined ∙ rw (z, append-nil, n)
-
-pub first-broken : (t : List ℕ) (count v : ℕ) → wordOf (take 16 t) ≡ Word v → joinedWords count (drop 16 t) ≡ none → joinedWords (suc count) t ≡ none
-unfolding joinedWords
-first-broken t count v e j = rw (e, j)
-
--- a first word in the buffer, and those read behind it
-module _ (t before after′ : List ℕ) (used count v : ℕ) (size : length after′ ≡ 2048) (small : used < 2048) (old : length before ≡ 2048)
-    (kept : take (used + 1) after′ ≡ take (used + 1) (set before used v)) where
-  first-there : getD after′ used 0 ≡ v
-  first-there =
-      sym (getD-take (used + 1) after′ used 0 (omega arith))
-      ∙ ap (λ (l : List ℕ). getD l used 0) kept
-      ∙ getD-take (used + 1) (set before used v) used 0 (omega arith)
-      ∙ getD-set-same before used v 0 (omega arith)
-
-  first-part : part used (suc count) after′ ≡ v ∷ part (used + 1) count after′
-  first-part =
-      ap (take (suc count)) (drop-cons after′ used 0 (omega arith))
-      ∙ rw first-there (ap (λ (k : ℕ). v ∷ take count (drop k after′)) (sym (add-one used)))
-
-  pub first-kept : take used after′ ≡ take used before
-  first-kept =
-      sym (take-take used (used + 1) after′ (omega arith))
-      ∙ ap (take used) kept
-      ∙ take-take used (used + 1) (set before used v) (omega arith)
-      ∙ take-set-le used before used v (omega arith)
-
-  pub first-joined : wordOf (take 16 t) ≡ Word v → joinedWords count (drop 16 t) ≡ some (part (used + 1) count after′)
-      → joinedWords (suc count) t ≡ some (part used (suc count) after′)
-  unfolding joinedWords
-  first-joined e j = rw (e, j) (ap some (sym first-part))

@@ -1,5 +1,5 @@
 // Lines of a text, each ended by a line feed.
-use hexadecimal::word;
+use hexadecimal::eight;
 use program::binary_program::FRAME_LIMIT;
 use program::binary_program::frame_length;
 use rules::HexWord;
@@ -107,37 +107,35 @@ fn read_words(text: &[u8], at: usize, count: usize, words: &mut [u64; 2048], use
 {
     let mut i = 0;
     while i < count {
-        let HexWord::Word(value) = word(text, at + 16 * i) else {
+        let HexWord::Word(high) = eight(text, at + 16 * i) else {
             return false;
         };
-        words[used + i] = value;
+        let HexWord::Word(low) = eight(text, at + 16 * i + 8) else {
+            return false;
+        };
+        words[used + i] = high * 0x1_0000_0000 + low;
         i += 1;
     }
     true
 }
 
-// Reads a line, from its start to its line feed. How many words it must have is known from the first, so that no more is read of a
-// longer one.
+// Reads a line, from its start to its line feed.
 fn read_line(text: &[u8], at: usize, end: usize, words: &mut [u64; 2048], used: usize) -> Line
     requires { ⌜ (at ≤ end) × (end ≤ length (now text)) ⌝ }
     requires { ⌜ (used + 4 ≤ 2048) × (length (now words) ≡ 2048) ⌝ }
     ensures { λ r. ⌜ ReadsLine (take (end - at) (drop at (now (text .entry)))) used (now (words .entry)) (now (words .exit)) r ⌝ }
 {
-    if end - at < 16 {
+    let count = (end - at) / 16;
+    if count < 1 || 4 < count {
         return Line::Malformed;
     }
-    let HexWord::Word(first) = word(text, at) else {
-        return Line::Malformed;
-    };
-    let count = frame_length(first);
-    if count == 0 {
+    if (end - at) % 16 != 0 {
         return Line::Malformed;
     }
-    if end - at != 16 * count {
+    if !read_words(text, at, count, words, used) {
         return Line::Malformed;
     }
-    words[used] = first;
-    if !read_words(text, at + 16, count - 1, words, used + 1) {
+    if frame_length(words[used]) != count {
         return Line::Malformed;
     }
     Line::Words(count)
