@@ -1,4 +1,5 @@
-//! What a program costs as text: 512 frames of each length, checked, and run with budget 1.
+//! What a program costs as text: 512 frames of each length, checked, and run with budget 1. Programs take turns, so that no digit is
+//! foreseen from the call before.
 
 use ola_core::vm::opcodes::OlaOpcode::{ADD, RC, TLOAD};
 use ola_library::{check, run, Answer, Lent, Program};
@@ -15,13 +16,41 @@ use crate::timing::{timed, verdict, Rounds, Try};
 use crate::yardstick;
 
 const ROUNDS: usize = 101;
-const CALLS: usize = 100;
+const PROGRAMS: usize = 64;
 
 const MOST_OF_WORDS: f64 = 1.5;
 const LEAST_SPEEDUP: f64 = 3.0;
 
-/// Words of a frame.
-const LENGTHS: [&[usize]; 5] = [&[1], &[2], &[3], &[4], &[1, 2, 3, 4]];
+struct Row {
+    name: &'static str,
+    /// Words of a frame.
+    lengths: &'static [usize],
+    /// What stands in the words behind the first is below it. Digits of small numbers are foreseen, those of any are not.
+    values: u64,
+}
+
+const ANY: u64 = u64::MAX;
+const SMALL: u64 = 256;
+
+const fn row(name: &'static str, lengths: &'static [usize], values: u64) -> Row {
+    Row {
+        name,
+        lengths,
+        values,
+    }
+}
+
+const ROWS: [Row; 9] = [
+    row("1", &[1], ANY),
+    row("2, any numbers", &[2], ANY),
+    row("3, any numbers", &[3], ANY),
+    row("4, any numbers", &[4], ANY),
+    row("1 to 4, any numbers", &[1, 2, 3, 4], ANY),
+    row("2, small numbers", &[2], SMALL),
+    row("3, small numbers", &[3], SMALL),
+    row("4, small numbers", &[4], SMALL),
+    row("1 to 4, small numbers", &[1, 2, 3, 4], SMALL),
+];
 
 const WORDS: usize = 0;
 const TEXT: usize = 1;
@@ -32,10 +61,7 @@ const CHECK_BEFORE: usize = 5;
 
 /// With the columns of an older library where there is one.
 pub fn tables(before: Option<&Before>) -> String {
-    let rows: Vec<(&str, Rounds)> = ["1", "2", "3", "4", "1 to 4"]
-        .into_iter()
-        .zip(LENGTHS.map(|lengths| measure(lengths, before)))
-        .collect();
+    let rows = ROWS.map(|row| (row.name, measure(&row, before)));
     let calls = rows.iter().map(|(name, rounds)| {
         let of_words = rounds.ratio(TEXT, WORDS);
         let older = before.map(|_| {
@@ -79,54 +105,83 @@ pub fn tables(before: Option<&Before>) -> String {
     )
 }
 
-fn measure(lengths: &[usize], before: Option<&Before>) -> Rounds {
-    eprintln!("bench: text, frames of {lengths:?} words");
-    let program = program(lengths);
-    let words = &encode(&program);
-    let text = &as_text(&program).into_bytes();
+struct Forms {
+    words: Vec<u64>,
+    text: Vec<u8>,
+}
+
+fn measure(row: &Row, before: Option<&Before>) -> Rounds {
+    eprintln!("bench: text, words a frame: {}", row.name);
+    let mut random = SplitMix64::new(SEED);
+    let programs: Vec<Forms> = (0..PROGRAMS)
+        .map(|_| {
+            let program = program(row, &mut random);
+            Forms {
+                words: encode(&program),
+                text: as_text(&program).into_bytes(),
+            }
+        })
+        .collect();
+    let words = |Forms { words, .. }: &Forms, lent: &mut Lent| {
+        let program = Program::Words { words, budget: 1 };
+        run(program, lent)
+    };
+    let text = |Forms { text, .. }: &Forms, lent: &mut Lent| {
+        let program = Program::Text { text, budget: 1 };
+        run(program, lent)
+    };
+    let yardstick =
+        |Forms { text, .. }: &Forms, lent: &mut Lent| yardstick::run_text(text, 1, lent);
+    let checked = |Forms { text, .. }: &Forms, lent: &mut Lent| {
+        let program = Program::Text { text, budget: 1 };
+        check(program, lent)
+    };
     let mut tries: Vec<Try> = vec![
-        time(move |lent| run(Program::Words { words, budget: 1 }, lent)),
-        time(move |lent| run(Program::Text { text, budget: 1 }, lent)),
-        time(move |lent| yardstick::run_text(text, 1, lent)),
-        time(move |lent| check(Program::Text { text, budget: 1 }, lent)),
+        time(&programs, words),
+        time(&programs, text),
+        time(&programs, yardstick),
+        time(&programs, checked),
     ];
     if let Some(before) = before {
-        tries.push(time(move |lent| before.run_text(text, 1, lent)));
-        tries.push(time(move |lent| before.check_text(text, lent)));
+        tries.push(time(&programs, |Forms { text, .. }, lent| {
+            before.run_text(text, 1, lent)
+        }));
+        tries.push(time(&programs, |Forms { text, .. }, lent| {
+            before.check_text(text, lent)
+        }));
     }
     Rounds::of(ROUNDS, &tries)
 }
 
 /// Nanoseconds a call.
-fn time<'a>(call: impl Fn(&mut Lent) -> Answer + 'a) -> Try<'a> {
+fn time<'a>(programs: &'a [Forms], call: impl Fn(&Forms, &mut Lent) -> Answer + 'a) -> Try<'a> {
     let start = lent(&State::default());
     Box::new(move || {
         let mut lent = start.clone();
         let (time, ()) = timed(|| {
-            for _ in 0..CALLS {
+            for program in programs {
                 lent.machine = start.machine;
-                let answer = call(&mut lent);
+                let answer = call(program, &mut lent);
                 assert_eq!((answer.refused, answer.number), (0, 3));
             }
         });
-        time / CALLS as f64
+        time / programs.len() as f64
     })
 }
 
-/// A frame that is run, and others that are only loaded, with any words as immediates.
-fn program(lengths: &[usize]) -> Vec<Frame> {
-    let mut random = SplitMix64::new(SEED);
-    let mut frames = vec![match lengths[0] {
+/// A frame that is run, and others that are only loaded.
+fn program(row: &Row, random: &mut SplitMix64) -> Vec<Frame> {
+    let mut frames = vec![match row.lengths[0] {
         1 => frame(RC, Absent, Register(1), Absent),
         2 => frame(RC, Absent, Immediate(5), Absent),
         3 => frame(RC, Immediate(5), Immediate(5), Absent),
         _ => frame(RC, Immediate(5), Immediate(5), Immediate(5)),
     }];
     while frames.len() < MOST_FRAMES {
-        let length = random.pick(lengths);
+        let length = random.pick(row.lengths);
         let mut register = || Register(random.below(10) as usize);
         let [a, b, c] = [register(), register(), register()];
-        let mut value = || Immediate(random.draw());
+        let mut value = || Immediate(random.below(row.values));
         frames.push(match length {
             1 => frame(ADD, a, b, c),
             2 => frame(ADD, a, value(), c),
