@@ -16,35 +16,45 @@ use Rattle.rules.specs.Hexadecimal.{digitOf, onDigit, digitsOf}
 use Rattle.rules.proofs.Computed.{every, at}
 use Rattle.eight_digits.specs.EightDigits.{byte, characters, eightDigits}
 use Rattle.eight_digits.proofs.Appending.{digits-snoc}
-use Rattle.eight_digits.proofs.Lanes.{lanes, rep, rep-lanes, id-lanes, same-lanes, add-lanes, times-39-lanes, lanes-lt, tested, and-lanes, or-lanes, xor-lanes}
+use Rattle.eight_digits.proofs.Lanes.{lanes, rep, rep-lanes, id-lanes, same-lanes, add-lanes, times-lanes, lanes-lt, tested, and-lanes, or-lanes, xor-lanes}
 use Rattle.eight_digits.proofs.Squeeze.{pack}
+
+-- how far letters are moved down, and what then tells them from the digits before: of a byte, and of all eight
+abbrev pub down : ℕ
+down = 0x27
+
+abbrev pub six : ℕ
+six = 0x06
+
+abbrev pub sixes : ℕ
+sixes = 0x0606_0606_0606_0606
 
 -- what the function computes of the word
 abbrev pub letters-of : ℕ → ℕ
 letters-of w = bitAnd (w / 64) 0x0101_0101_0101_0101
 
 abbrev pub moved-of : ℕ → ℕ
-moved-of w = w - letters-of w * 0x27
+moved-of w = w - letters-of w * down
 
 abbrev pub digits-of : ℕ → ℕ
 digits-of w = bitXor (moved-of w) 0x3030_3030_3030_3030
 
 abbrev pub wrong-of : ℕ → ℕ
 wrong-of w =
-    bitOr (bitAnd (digits-of w) 0xf0f0_f0f0_f0f0_f0f0) (bitAnd (bitXor (moved-of w + 0x0606_0606_0606_0606) w) 0x4040_4040_4040_4040)
+    bitOr (bitAnd (digits-of w) 0xf0f0_f0f0_f0f0_f0f0) (bitAnd (bitXor (moved-of w + sixes) w) 0x4040_4040_4040_4040)
 
 -- and of one byte
 abbrev letter : ℕ → ℕ
 letter x = x / 64 % 2
 
 abbrev moved : ℕ → ℕ
-moved x = x - letter x * 39
+moved x = x - letter x * down
 
 abbrev digit : ℕ → ℕ
 digit x = bitXor (moved x) 48
 
 abbrev other : ℕ → ℕ
-other x = bitXor (moved x + 6) x
+other x = bitXor (moved x + six) x
 
 abbrev wrong : ℕ → ℕ
 wrong x = bitOr (bitAnd (digit x) 240) (bitAnd (other x) 64)
@@ -61,16 +71,16 @@ letter-lanes (suc n) w =
     ∙ ap₂ (λ (a b : ℕ). a * 256 + b) (ap (λ (x : ℕ). bitAnd x (rep 1 n)) d ∙ letter-lanes n (w / 256)) (and-mask (w / 64 % 256) 1 ∙ m)
 
 module _ (w : ℕ) (h : w < 2 ^ 64) where
-  moved-and-letters : lanes moved 8 w + letters-of w * 0x27 ≡ w
+  moved-and-letters : lanes moved 8 w + letters-of w * down ≡ w
   unfolding rep
   moved-and-letters =
-      ap (λ (k : ℕ). lanes moved 8 w + k) (ap (λ (k : ℕ). k * 39) (letter-lanes 8 w) ∙ times-39-lanes letter 8 w)
-      ∙ add-lanes moved (λ x. letter x * 39) 8 w
-      ∙ same-lanes (λ x. moved x + letter x * 39) (λ x. x) (λ x b. omega arith) 8 w
+      ap (λ (k : ℕ). lanes moved 8 w + k) (ap (λ (k : ℕ). k * down) (letter-lanes 8 w) ∙ times-lanes down letter 8 w)
+      ∙ add-lanes moved (λ x. letter x * down) 8 w
+      ∙ same-lanes (λ x. moved x + letter x * down) (λ x. x) (λ x b. omega arith) 8 w
       ∙ sym (id-lanes 8 w h)
 
   -- no byte borrows from the next
-  pub enough : letters-of w * 0x27 ≤ w
+  pub enough : letters-of w * down ≤ w
   enough = omega (arith, moved-and-letters)
 
   moved-lanes : moved-of w ≡ lanes moved 8 w
@@ -81,24 +91,24 @@ module _ (w : ℕ) (h : w < 2 ^ 64) where
   digit-lanes =
       ap₂ (λ (a b : ℕ). bitXor a b) moved-lanes (rep-lanes 48 8 w) ∙ xor-lanes moved (λ _. 48) (tested moved tt) (λ x b. lit< tt) 8 w
 
-  past-lanes : moved-of w + 0x0606_0606_0606_0606 ≡ lanes (λ x. moved x + 6) 8 w
+  past-lanes : moved-of w + sixes ≡ lanes (λ x. moved x + six) 8 w
   unfolding rep
-  past-lanes = ap₂ (λ (a b : ℕ). a + b) moved-lanes (rep-lanes 6 8 w) ∙ add-lanes moved (λ _. 6) 8 w
+  past-lanes = ap₂ (λ (a b : ℕ). a + b) moved-lanes (rep-lanes six 8 w) ∙ add-lanes moved (λ _. six) 8 w
 
   -- nor carries into it
-  pub past-lt : moved-of w + 0x0606_0606_0606_0606 < 2 ^ 64
-  past-lt = omega (arith, past-lanes, lanes-lt (λ x. moved x + 6) (tested (λ x. moved x + 6) tt) 8 w)
+  pub past-lt : moved-of w + sixes < 2 ^ 64
+  past-lt = omega (arith, past-lanes, lanes-lt (λ x. moved x + six) (tested (λ x. moved x + six) tt) 8 w)
 
-  other-lanes : bitXor (moved-of w + 0x0606_0606_0606_0606) w ≡ lanes other 8 w
+  other-lanes : bitXor (moved-of w + sixes) w ≡ lanes other 8 w
   other-lanes =
-      ap₂ (λ (a b : ℕ). bitXor a b) past-lanes (id-lanes 8 w h) ∙ xor-lanes (λ x. moved x + 6) (λ x. x) (tested (λ x. moved x + 6) tt) (λ x b. b) 8 w
+      ap₂ (λ (a b : ℕ). bitXor a b) past-lanes (id-lanes 8 w h) ∙ xor-lanes (λ x. moved x + six) (λ x. x) (tested (λ x. moved x + six) tt) (λ x b. b) 8 w
 
   wrong-lanes : wrong-of w ≡ lanes wrong 8 w
   unfolding rep
   wrong-lanes =
       let d : bitAnd (digits-of w) 0xf0f0_f0f0_f0f0_f0f0 ≡ lanes (λ x. bitAnd (digit x) 240) 8 w =
       ap₂ (λ (a b : ℕ). bitAnd a b) digit-lanes (rep-lanes 240 8 w) ∙ and-lanes digit (λ _. 240) (tested digit tt) (λ x b. lit< tt) 8 w in
-      let o : bitAnd (bitXor (moved-of w + 0x0606_0606_0606_0606) w) 0x4040_4040_4040_4040 ≡ lanes (λ x. bitAnd (other x) 64) 8 w =
+      let o : bitAnd (bitXor (moved-of w + sixes) w) 0x4040_4040_4040_4040 ≡ lanes (λ x. bitAnd (other x) 64) 8 w =
       ap₂ (λ (a b : ℕ). bitAnd a b) other-lanes (rep-lanes 64 8 w) ∙ and-lanes other (λ _. 64) (tested other tt) (λ x b. lit< tt) 8 w in
       ap₂ (λ (a b : ℕ). bitOr a b) d o
       ∙ or-lanes (λ x. bitAnd (digit x) 240) (λ x. bitAnd (other x) 64) (tested (λ x. bitAnd (digit x) 240) tt) (tested (λ x. bitAnd (other x) 64) tt) 8 w

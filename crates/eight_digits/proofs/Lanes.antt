@@ -1,7 +1,7 @@
 -- A word as n bytes, and one function applied to each of them: what a masked operation on the word does.
 use mathlib.Core.Path.{_≡_, refl, ap, ap₂, _∙_}
 use Prim.Native.Nat.{ℕ, zero, suc, _+_, _*_, _/_, _%_, _^_, _<_}
-use native.Mathlib.Nat.{pow-suc}
+use native.Mathlib.Nat.{zero-mul, add-mul, mul-right-comm, pow-suc}
 use native.Mathlib.Omega.{arith}
 use lib.Arith.{digits-lt}
 use lib.Dec.{T, ltb, ltb→lt}
@@ -46,12 +46,12 @@ add-lanes f g (suc n) w =
     let e = add-lanes f g n (w / 256) in
     omega arith
 
-pub times-39-lanes : (f : ℕ → ℕ) (n w : ℕ) → lanes f n w * 39 ≡ lanes (λ x. f x * 39) n w
+pub times-lanes : (k : ℕ) (f : ℕ → ℕ) (n w : ℕ) → lanes f n w * k ≡ lanes (λ x. f x * k) n w
 unfolding lanes
-times-39-lanes f zero w = refl
-times-39-lanes f (suc n) w =
-    let e = times-39-lanes f n (w / 256) in
-    omega arith
+times-lanes k f zero w = zero-mul k
+times-lanes k f (suc n) w =
+    add-mul (lanes f n (w / 256) * 256) (f (w % 256)) k
+    ∙ ap (λ (m : ℕ). m + f (w % 256) * k) (mul-right-comm (lanes f n (w / 256)) 256 k ∙ ap (λ (m : ℕ). m * 256) (times-lanes k f n (w / 256)))
 
 -- a function whose value on a byte is a byte
 abbrev pub Byte : (ℕ → ℕ) → Type 0

@@ -149,7 +149,7 @@ pub(crate) fn read_frame(text: &[u8], at: usize, words: &mut [u64; 2048], used: 
     ensures { λ r. ⌜ ReadsFrame (now (text .entry)) at used (now (words .entry)) (now (words .exit)) r ⌝ }
 {
     let end = frame_end(text, at);
-    if end == text.len() {
+    if text.len() <= end {
         return Line::Malformed;
     }
     read_line(text, at, end, words, used)

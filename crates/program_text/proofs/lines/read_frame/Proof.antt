@@ -13,7 +13,7 @@ frame-end-requires c κs = search needs
 returns : tie.Need-returns
 returns c =
     let s = c .before .before .before in
-    malformed-here (now (s .args .text)) (s .args .at) (c .before .frame-end .result) (c .before .frame-end .ensures) (s .pre .0) (inl (c .if1 .taken))
+    malformed-here (now (s .args .text)) (s .args .at) (c .before .frame-end .result) (c .before .frame-end .ensures) (s .pre .0) (inl (omega (arith, c .before .frame-end .ensures .inside)))
 
 read-line-requires : tie.Need-read-line-requires
 read-line-requires c κs = search needs
@@ -22,7 +22,6 @@ returns-2 : tie.Need-returns-2
 returns-2 c =
     let s = c .before .before .before .before .before in
     let e = c .before .before .before .frame-end in
-    let i = e .ensures .inside in
     frame-or-malformed (now (s .args .text)) (s .args .at) (e .result) (e .ensures) _ _ _ (s .pre .0) (omega (arith, c .before .before .if1 .left)) (c .read-line .result) (c .read-line .ensures)
 
 pub read-frame-spec : {M : Type 1} → statement M

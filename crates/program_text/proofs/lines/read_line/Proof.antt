@@ -69,7 +69,7 @@ returns-4 c =
     let w = c .before .before .before .before in
     let k = w .before .before in
     read-other (a .text .now) (a .words .now) (w .read-words .last .1 .1 .1 .0) (a .at) (a .end) (a .used) ((a .end - a .at) / 16) (s .pre .0 .0) (s .pre .0 .1) (words-whole k) (words-least k)
-    (rw (not-false (w .read-words .result) (c .before .before .before .if4 .left)) at (w .read-words .ensures)) (c .before .frame-length .result) (c .before .frame-length .ensures) (c .if5 .taken)
+    (rw (not-false (w .read-words .result) (c .before .before .before .if4 .left)) at (w .read-words .ensures)) (c .before .frame-length .result) (c .before .frame-length .ensures) (λ e. c .if5 .taken (omega arith))
 
 returns-5 : tie.Need-returns-5
 returns-5 c =
@@ -78,7 +78,7 @@ returns-5 c =
     let w = c .before .before .before .before in
     let k = w .before .before in
     read-whole (a .text .now) (a .words .now) (w .read-words .last .1 .1 .1 .0) (a .at) (a .end) (a .used) ((a .end - a .at) / 16) (s .pre .0 .0) (s .pre .0 .1) (words-whole k) (words-least k)
-    (rw (not-false (w .read-words .result) (c .before .before .before .if4 .left)) at (w .read-words .ensures)) (c .before .frame-length .result) (c .before .frame-length .ensures) (c .if5 .left)
+    (rw (not-false (w .read-words .result) (c .before .before .before .if4 .left)) at (w .read-words .ensures)) (c .before .frame-length .result) (c .before .frame-length .ensures) (omega (arith, c .if5 .left))
 
 pub read-line-spec : {M : Type 1} → statement M
 read-line-spec =
