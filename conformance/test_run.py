@@ -8,7 +8,7 @@ from pathlib import Path
 
 HERE = Path(__file__).parent
 ANSWERS = HERE / "vectors" / "worked.answers"
-CASES = 497
+CASES = 501
 SOLVE_INPUTS = 37
 
 

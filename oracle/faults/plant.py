@@ -1,11 +1,11 @@
 #!/usr/bin/env python3
 """Plants the faults of faults.txt, one at a time, in a copy of the library's source, and shows which programs notice each.
 
-Nothing is proved: `rt try` builds the programs `cases` and `replay` of the copy as they are, and compares what they write with their
-stored output. Progress goes to standard error, the table to standard output. The script fails where
+Nothing is proved: `rt try` builds the programs `cases`, `replay` and `every_byte` of the copy as they are, and compares what they write
+with their stored output. Progress goes to standard error, the table to standard output. The script fails where
 
-- the unchanged copy is not accepted by both programs,
-- a fault is noticed by neither, does not build, or keeps a program from ending,
+- the unchanged copy is not accepted by all programs,
+- a fault is noticed by none, does not build, or keeps a program from ending,
 - an opcode, an operand kind, a refusal, a mark rule or a listed use of document 01 has no fault, or a rule of document 02.
 """
 
@@ -21,7 +21,7 @@ import tempfile
 
 REPOSITORY = pathlib.Path(__file__).resolve().parents[2]
 FAULTS = pathlib.Path(__file__).with_name("faults.txt")
-PROGRAMS = ["cases", "replay"]
+PROGRAMS = ["cases", "replay", "every_byte"]
 
 # `rt try` runs the interpreter, which gives up on inputs as long as these, and then native builds. What this one writes decides; the slow
 # one that comes after it is not waited for.
@@ -64,7 +64,7 @@ LISTED_USES = (
 )
 
 # Rules of document 02.
-REQUESTS = ["the earliest malformed frame", "kilosteps at the half"]
+REQUESTS = ["the earliest malformed frame", "kilosteps at the half", "eight digits together"]
 
 # What must have a fault, in the words of the lines `for:`.
 REQUIRED = (
@@ -153,7 +153,8 @@ def copy_sources(copy):
         shutil.copytree(crate / "src", copy / "crates" / crate.name / "src")
     for program in PROGRAMS:
         for name in ["stdin", "stdout"]:
-            shutil.copy(REPOSITORY / "crates" / program / name, copy / "crates" / program)
+            if (REPOSITORY / "crates" / program / name).exists():
+                shutil.copy(REPOSITORY / "crates" / program / name, copy / "crates" / program)
 
 
 def notices(copy, program):
@@ -216,16 +217,16 @@ def plant_all(faults, jobs):
 
 def main():
     parser = argparse.ArgumentParser(description=__doc__, formatter_class=argparse.RawDescriptionHelpFormatter)
-    parser.add_argument("--only", default="", metavar="TEXT", help="only the faults with this text in their name or purpose")
+    parser.add_argument("--only", default="", metavar="TEXT", help="only the faults with this text in their name, file or purpose")
     parser.add_argument("--jobs", type=int, default=os.cpu_count(), metavar="N", help="so many at a time (default: the processors)")
     options = parser.parse_args()
     if not shutil.which("rt"):
         stop("the command `rt` of the Rattle toolchain is not there")
     faults = read_faults()
     check_faults(faults)
-    faults = [fault for fault in faults if any(options.only in text for text in [fault.name, *fault.stands_for])]
+    faults = [fault for fault in faults if any(options.only in text for text in [fault.name, fault.file, *fault.stands_for])]
     if not faults:
-        stop(f"no fault has '{options.only}' in its name or purpose")
+        stop(f"no fault has '{options.only}' in its name, file or purpose")
     progress(f"the unchanged copy, then {len(faults)} faults")
     refused_by = noticed_by(None)
     if refused_by:

@@ -13,7 +13,7 @@ use Rattle.rules.specs.declared.HexWord.{HexWord}
 use Rattle.rules.specs.declared.HexWord.the-variants.{Word, NotHex}
 use Rattle.rules.specs.Numbers.{choose}
 use Rattle.rules.specs.Hexadecimal.{digitOf, onDigit, digitsOf}
-use Rattle.rules.proofs.Computed.{every, at}
+use Rattle.rules.proofs.Computed.{at}
 use Rattle.eight_digits.specs.EightDigits.{byte, characters, eightDigits}
 use Rattle.eight_digits.proofs.Appending.{digits-snoc}
 use Rattle.eight_digits.proofs.Lanes.{lanes, rep, rep-lanes, id-lanes, same-lanes, add-lanes, times-lanes, lanes-lt, tested, and-lanes, or-lanes, xor-lanes}
@@ -29,6 +29,13 @@ six = 0x06
 abbrev pub sixes : ℕ
 sixes = 0x0606_0606_0606_0606
 
+-- the bits that no digit has
+abbrev pub high : ℕ
+high = 0xf0
+
+abbrev pub highs : ℕ
+highs = 0xf0f0_f0f0_f0f0_f0f0
+
 -- what the function computes of the word
 abbrev pub letters-of : ℕ → ℕ
 letters-of w = bitAnd (w / 64) 0x0101_0101_0101_0101
@@ -41,7 +48,7 @@ digits-of w = bitXor (moved-of w) 0x3030_3030_3030_3030
 
 abbrev pub wrong-of : ℕ → ℕ
 wrong-of w =
-    bitOr (bitAnd (digits-of w) 0xf0f0_f0f0_f0f0_f0f0) (bitAnd (bitXor (moved-of w + sixes) w) 0x4040_4040_4040_4040)
+    bitOr (bitAnd (digits-of w) highs) (bitAnd (bitXor (moved-of w + sixes) w) 0x4040_4040_4040_4040)
 
 -- and of one byte
 abbrev letter : ℕ → ℕ
@@ -57,7 +64,7 @@ abbrev other : ℕ → ℕ
 other x = bitXor (moved x + six) x
 
 abbrev wrong : ℕ → ℕ
-wrong x = bitOr (bitAnd (digit x) 240) (bitAnd (other x) 64)
+wrong x = bitOr (bitAnd (digit x) high) (bitAnd (other x) 64)
 
 -- the word by its bytes
 letter-lanes : (n w : ℕ) → bitAnd (w / 64) (rep 1 n) ≡ lanes letter n w
@@ -106,12 +113,12 @@ module _ (w : ℕ) (h : w < 2 ^ 64) where
   wrong-lanes : wrong-of w ≡ lanes wrong 8 w
   unfolding rep
   wrong-lanes =
-      let d : bitAnd (digits-of w) 0xf0f0_f0f0_f0f0_f0f0 ≡ lanes (λ x. bitAnd (digit x) 240) 8 w =
-      ap₂ (λ (a b : ℕ). bitAnd a b) digit-lanes (rep-lanes 240 8 w) ∙ and-lanes digit (λ _. 240) (tested digit tt) (λ x b. lit< tt) 8 w in
+      let d : bitAnd (digits-of w) highs ≡ lanes (λ x. bitAnd (digit x) high) 8 w =
+      ap₂ (λ (a b : ℕ). bitAnd a b) digit-lanes (rep-lanes high 8 w) ∙ and-lanes digit (λ _. high) (tested digit tt) (λ x b. lit< tt) 8 w in
       let o : bitAnd (bitXor (moved-of w + sixes) w) 0x4040_4040_4040_4040 ≡ lanes (λ x. bitAnd (other x) 64) 8 w =
       ap₂ (λ (a b : ℕ). bitAnd a b) other-lanes (rep-lanes 64 8 w) ∙ and-lanes other (λ _. 64) (tested other tt) (λ x b. lit< tt) 8 w in
       ap₂ (λ (a b : ℕ). bitOr a b) d o
-      ∙ or-lanes (λ x. bitAnd (digit x) 240) (λ x. bitAnd (other x) 64) (tested (λ x. bitAnd (digit x) 240) tt) (tested (λ x. bitAnd (other x) 64) tt) 8 w
+      ∙ or-lanes (λ x. bitAnd (digit x) high) (λ x. bitAnd (other x) 64) (tested (λ x. bitAnd (digit x) high) tt) (tested (λ x. bitAnd (other x) 64) tt) 8 w
 
 -- one byte: tested at all 256
 same : HexWord → HexWord → Bool

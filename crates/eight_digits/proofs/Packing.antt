@@ -3,7 +3,7 @@ use mathlib.Core.Path.{_≡_, refl, ap₂}
 use mathlib.Core.List.{List, [], _∷_}
 use Prim.Native.Nat.{ℕ, _+_, _*_, _^_, _<_}
 use native.Mathlib.Omega.{arith}
-use Rattle.eight_digits.specs.EightDigits.{byte, characters}
+use Rattle.eight_digits.specs.EightDigits.{characters}
 
 cons : {x y : ℕ} {xs ys : List ℕ} → x ≡ y → xs ≡ ys → x ∷ xs ≡ y ∷ ys
 cons p q = ap₂ (λ (x : ℕ) (xs : List ℕ). x ∷ xs) p q

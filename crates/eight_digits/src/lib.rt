@@ -7,9 +7,9 @@ ghost use Rattle.eight_digits.specs.EightDigits.{characters, eightDigits
 
 // The number of the eight digits.
 //
-// Every sum and difference below stays within its byte, whatever the characters are. Only a letter's byte has bit 6. Moved down by 0x27,
-// 'a' comes right after '9', so that the digits are 0x30 to 0x3f in their order; and a moved character plus 6 has bit 6 exactly from 'a' on,
-// which must be as before.
+// Every sum and difference stays within its byte, whatever the characters are. Of the digits just the letters have bit 6. Moved down by
+// 0x27 they come right after '9', so that the digits are 0x30 to 0x3f, in their order. What else comes to stand there is told by bit 6: a
+// moved character plus 6 must have it exactly where the character had it.
 pub fn number(w: u64) -> HexWord
     ensures { λ r. ⌜ r ≡ eightDigits w ⌝ }
 {

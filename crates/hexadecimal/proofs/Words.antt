@@ -1,17 +1,16 @@
--- What reading gives: a word is below 2^64, and the digits that are written of a word read back as that word.
+-- The digits that are written of a word read back as that word.
 use mathlib.Core.Path.{_≡_, refl, ap, _∙_}
 use mathlib.Core.Bool.{Bool, true, false}
-use mathlib.Core.List.{List, [], _∷_, _++_}
 use Prim.Native.Nat.{ℕ, zero, suc, _+_, _*_, _/_, _%_, _^_, _<_, _≤_}
-use native.Mathlib.Nat.{pow-suc, mod-one, mod-lt, mod-eq-of-lt, mul-le-mul-right, one-le-pow}
+use native.Mathlib.Nat.{pow-suc, mod-one, mod-lt, mod-eq-of-lt, one-le-pow}
 use native.Mathlib.Omega.{arith}
 use lib.Arith.{mod-mul}
-use lib.Dec.{ltb, eqb}
+use lib.Dec.{ltb}
 use lib.ListN.{length, length-append}
-use borrow.Author.Tests.{eq-eqb, eqb-true, ltb-true, ltb-false}
-use Rattle.rules.specs.declared.HexWord.the-variants.{Word, NotHex}
+use borrow.Author.Tests.{eq-eqb, ltb-true, ltb-false}
+use Rattle.rules.specs.declared.HexWord.the-variants.{Word}
 use Rattle.rules.specs.Numbers.{choose}
-use Rattle.rules.specs.Hexadecimal.{digitOf, onDigit, digitsOf, wordOf, digitChar, lowDigits, digits16, digitCount, shortestHex}
+use Rattle.rules.specs.Hexadecimal.{digitOf, digitsOf, wordOf, digitChar, lowDigits, digits16, digitCount, shortestHex}
 use Rattle.eight_digits.proofs.Appending.{digits-snoc}
 use Rattle.hexadecimal.proofs.Digits.{decimal, letter}
 

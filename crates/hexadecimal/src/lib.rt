@@ -19,7 +19,8 @@ pub fn digit(c: u8) -> HexWord
     }
 }
 
-// The number of the eight digits from a place on, which are there. Internal: two of them are a word, for a caller that reads many.
+// The number of the eight digits from a place on, where there are eight characters. Internal: two of them are a word, for a caller that
+// reads many.
 pub fn eight(s: &[u8], at: usize) -> HexWord
     requires { ⌜ at + 8 ≤ length (now s) ⌝ }
     ensures { λ r. ⌜ r ≡ digitsOf 0 (take 8 (drop at (now (s .entry)))) ⌝ }

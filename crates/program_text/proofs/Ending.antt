@@ -1,11 +1,10 @@
 -- Where the line of a frame ends: at a line feed that only whole words stand before, so that its digits say that there is none among them.
 use mathlib.Core.Logic.{_⊎_, inl, inr}
 use mathlib.Core.Path.{_≡_, refl, sym, ap, _∙_, subst}
-use mathlib.Core.Bool.{Bool, true, false}
 use mathlib.Core.List.{List, [], _∷_, _++_}
 use mathlib.Core.Option.{Option, none, some}
 use Prim.Native.Nat.{ℕ, zero, suc, _+_, _*_, _-_, _/_, _%_, _≤_, _<_}
-use native.Mathlib.Nat.{not-suc-le-zero, le-of-suc-le-suc, suc-add}
+use native.Mathlib.Nat.{not-suc-le-zero, le-of-suc-le-suc}
 use native.Mathlib.Omega.{arith}
 use lib.Dec.{eqb, leb, ltb}
 use lib.ListN.{length, take, drop, getD, length-drop, take-append-drop}
@@ -16,7 +15,6 @@ use Rattle.rules.specs.declared.HexWord.the-variants.{Word, NotHex}
 use Rattle.rules.specs.declared.Frame.{Frame}
 use Rattle.rules.specs.declared.Frame.the-variants.{Holds, Malformed}
 use Rattle.rules.specs.declared.Instruction.{Instruction}
-use Rattle.rules.specs.Numbers.{choose}
 use Rattle.rules.specs.Frames.{valueCount, exactFrameOf}
 use Rattle.rules.specs.Hexadecimal.{digitOf, onDigit, digitsOf, wordOf}
 use Rattle.rules.specs.Text.{ended, unended, lineFeed, consWord, joinedWords, frameOfWords, frameOfLine, linesOf}
@@ -91,6 +89,7 @@ module _ {text : List ℕ} {at end left : ℕ} (k : Looked text at end left) whe
       record {
         order = omega arith;
         inside = omega arith;
+        whole = λ h. absurd (omega arith);
         feed = λ h. absurd (omega arith);
         frame = λ n a b e h. absurd (k .none n a (all n b h) (feed-at text at (16 * n) h e));
       }
@@ -102,6 +101,7 @@ module _ {text : List ℕ} {at end left : ℕ} (k : Looked text at end left) whe
       record {
         order = omega arith;
         inside = omega arith;
+        whole = λ _. record { words = 5 - left; least = omega arith; most = omega arith; digits = omega arith };
         feed = λ _. e;
         frame = λ n a b f g.
             let m : at + (end + 16 - at) ≡ end + 16 = omega arith in
@@ -185,13 +185,6 @@ frame-line l i e =
         let x = exact-length ws i f in
         let v = value-count-le (getD ws 0 0) in
         record { n = length l / 16; least = omega arith; most = omega arith; whole = omega arith; ws = ws; joined = j }
-
-pub no-frame-line : (l : List ℕ) → ((n : ℕ) → 1 ≤ n → n ≤ 4 → length l ≡ 16 * n → ⊥) → frameOfLine (ended l) ≡ Malformed
-no-frame-line l f = go (frameOfLine (ended l)) refl
-  where
-    go : (x : Frame) → frameOfLine (ended l) ≡ x → frameOfLine (ended l) ≡ Malformed
-    go Malformed e = e
-    go (Holds i) e = let r = frame-line l i e in absurd (f (r .n) (r .least) (r .most) (r .whole))
 
 -- The line at a place
 

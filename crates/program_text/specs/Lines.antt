@@ -3,7 +3,7 @@ use mathlib.Core.Path.{_≡_}
 use mathlib.Core.Bool.{Bool, true, false}
 use mathlib.Core.List.{List, [], _∷_}
 use mathlib.Core.Option.{none, some}
-use Prim.Native.Nat.{ℕ, suc, _+_, _*_, _≤_, _<_}
+use Prim.Native.Nat.{ℕ, suc, _+_, _*_, _-_, _≤_, _<_}
 use lib.Dec.{eqb}
 use lib.ListN.{length, take, drop, getD}
 use Rattle.rules.specs.Numbers.{choose}
@@ -19,10 +19,18 @@ abbrev pub lineLength : List ℕ → ℕ
 lineLength [] = 0
 lineLength (c ∷ cs) = choose (eqb c lineFeed) 0 (suc (lineLength cs))
 
+-- so many characters are one to four words
+pub record WholeWords (characters : ℕ) : Type 0 where
+  pub words : ℕ
+  pub least : 1 ≤ words
+  pub most : words ≤ 4
+  pub digits : characters ≡ 16 * words
+
 -- where the line of a frame ends: of one to four words, at its line feed
 pub record FrameEnd (text : List ℕ) (at r : ℕ) : Type 0 where
   pub order : at ≤ r
   pub inside : r ≤ length text
+  pub whole : r < length text → WholeWords (r - at)
   pub feed : r < length text → getD text r 0 ≡ lineFeed
   pub frame : (n : ℕ) → 1 ≤ n → n ≤ 4 → lineLength (drop at text) ≡ 16 * n → at + 16 * n < length text → r ≡ at + 16 * n
 

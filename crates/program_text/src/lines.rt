@@ -11,7 +11,7 @@ ghost use lib.ListN.{length, take, drop};
 ghost use Rattle.rules.specs.declared.Refusal.the-variants.{BadLength, MalformedFrame};
 ghost use Rattle.rules.specs.Numbers.{choose};
 ghost use Rattle.rules.specs.Text.{linesOf};
-ghost use Rattle.program_text.specs.Lines.{lineLength, FrameEnd, ReadsWords, ReadsLine, ReadsFrame};
+ghost use Rattle.program_text.specs.Lines.{lineLength, WholeWords, FrameEnd, ReadsWords, ReadsLine, ReadsFrame};
 
 // What a line holds: the words of a frame, or it is malformed.
 pub(crate) enum Line {
@@ -35,7 +35,7 @@ pub(crate) fn line_end(text: &[u8], at: usize) -> usize
 }
 
 // Where the line of a frame ends: at the first line feed that stands 16, 32, 48 or 64 characters after its start. Where there is none the
-// line is no frame's; then it is the text's end.
+// line is no frame's, and the answer is the text's end.
 fn frame_end(text: &[u8], at: usize) -> usize
     requires { ⌜ at ≤ length (now text) ⌝ }
     ensures { λ r. ⌜ FrameEnd (now (text .entry)) at r ⌝ }
@@ -119,19 +119,14 @@ fn read_words(text: &[u8], at: usize, count: usize, words: &mut [u64; 2048], use
     true
 }
 
-// Reads a line, from its start to its line feed.
+// Reads a line of one to four words, from its start to its line feed.
 fn read_line(text: &[u8], at: usize, end: usize, words: &mut [u64; 2048], used: usize) -> Line
     requires { ⌜ (at ≤ end) × (end ≤ length (now text)) ⌝ }
+    requires { ⌜ WholeWords (end - at) ⌝ }
     requires { ⌜ (used + 4 ≤ 2048) × (length (now words) ≡ 2048) ⌝ }
     ensures { λ r. ⌜ ReadsLine (take (end - at) (drop at (now (text .entry)))) used (now (words .entry)) (now (words .exit)) r ⌝ }
 {
     let count = (end - at) / 16;
-    if count < 1 || 4 < count {
-        return Line::Malformed;
-    }
-    if (end - at) % 16 != 0 {
-        return Line::Malformed;
-    }
     if !read_words(text, at, count, words, used) {
         return Line::Malformed;
     }

@@ -12,7 +12,7 @@ extern "C" {
     fn dlerror() -> *const c_char;
 }
 
-/// Linux's `RTLD_NOW`: its names stay its own.
+/// Linux's `RTLD_NOW`, without `RTLD_GLOBAL`: so its names stay its own.
 const NOW: c_int = 2;
 
 type RunText = unsafe extern "C" fn(

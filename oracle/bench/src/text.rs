@@ -18,6 +18,7 @@ use crate::yardstick;
 const ROUNDS: usize = 101;
 const PROGRAMS: usize = 64;
 
+/// The targets of document 02's #106: a call from text beside the same from words, and a check beside one digit by digit.
 const MOST_OF_WORDS: f64 = 1.5;
 const LEAST_SPEEDUP: f64 = 3.0;
 

@@ -1,7 +1,7 @@
 -- `eight_digits::number` meets its contract for every word. The test is that of all bytes at once (Bytewise.antt), and the last three steps
 -- bring the eight digits together (Squeeze.antt).
 use mathlib.Core.Path.{_≡_, sym, ap, _∙_}
-use Prim.Native.Nat.{ℕ, _+_, _/_, _≤_}
+use Prim.Native.Nat.{ℕ, _/_}
 use native.Mathlib.Omega.{arith}
 use lib.Bits.{bitAnd, and-le-r}
 use Rattle.rules.specs.declared.HexWord.the-variants.{Word}

@@ -1,8 +1,6 @@
 -- `program_text::lines::frame_end` meets its contract. The loop keeps `Looked`, and the places that are left are the measure.
-use Prim.Native.Nat.{_+_, _-_}
+use Prim.Native.Nat.{_-_}
 use native.Mathlib.Omega.{arith}
-use borrow.Author.Needs.{needs}
-use denote.Ref.{now}
 use Rattle.program_text.proofs.Ending.{Looked, looked-start, looked-next, no-end, end-found}
 use Rattle.program_text.proofs.lines.frame_end.Statement.{statement}
 use Rattle.program_text.proofs.lines.frame_end.Tie as tie

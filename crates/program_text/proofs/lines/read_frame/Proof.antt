@@ -16,7 +16,10 @@ returns c =
     malformed-here (now (s .args .text)) (s .args .at) (c .before .frame-end .result) (c .before .frame-end .ensures) (s .pre .0) (inl (omega (arith, c .before .frame-end .ensures .inside)))
 
 read-line-requires : tie.Need-read-line-requires
-read-line-requires c κs = search needs
+read-line-requires c κs =
+    let s = c .before .before .before .before in
+    let e = c .before .before .frame-end .ensures in
+    ((e .order, e .inside), (e .whole (omega (arith, c .before .if1 .left)), s .pre .1))
 
 returns-2 : tie.Need-returns-2
 returns-2 c =

@@ -6,7 +6,6 @@ use native.Mathlib.Omega.{arith}
 use lib.ListN.{length, take, drop}
 use lib.Seq.{drop-drop}
 use borrow.Author.Needs.{needs}
-use Rattle.rules.specs.declared.HexWord.{HexWord}
 use Rattle.rules.specs.declared.HexWord.the-variants.{Word}
 use Rattle.rules.specs.Hexadecimal.{digitsOf, wordOf}
 use Rattle.hexadecimal.proofs.Reading.{half-lt, first-none, second-none, both}
