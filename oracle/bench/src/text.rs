@@ -18,7 +18,7 @@ use crate::yardstick;
 const ROUNDS: usize = 101;
 const PROGRAMS: usize = 64;
 
-/// The targets of document 02's #106: a call from text beside the same from words, and a check beside one digit by digit.
+/// The targets: of a call from text beside the same from words, and of a check beside one digit by digit.
 const MOST_OF_WORDS: f64 = 1.5;
 const LEAST_SPEEDUP: f64 = 3.0;
 
@@ -57,8 +57,9 @@ const WORDS: usize = 0;
 const TEXT: usize = 1;
 const YARDSTICK: usize = 2;
 const CHECK: usize = 3;
-const TEXT_BEFORE: usize = 4;
-const CHECK_BEFORE: usize = 5;
+const CHECK_YARDSTICK: usize = 4;
+const TEXT_BEFORE: usize = 5;
+const CHECK_BEFORE: usize = 6;
 
 /// With the columns of an older library where there is one.
 pub fn tables(before: Option<&Before>) -> String {
@@ -86,8 +87,10 @@ pub fn tables(before: Option<&Before>) -> String {
             format!(" {:.0} | {met} |", rounds.time(CHECK_BEFORE))
         });
         format!(
-            "| {name} | {:.0} |{}\n",
+            "| {name} | {:.0} | {:.0} | {:.2} |{}\n",
             rounds.time(CHECK),
+            rounds.time(CHECK_YARDSTICK),
+            rounds.ratio(CHECK, CHECK_YARDSTICK),
             older.unwrap_or_default()
         )
     });
@@ -101,7 +104,7 @@ pub fn tables(before: Option<&Before>) -> String {
         "A call with budget 1:\n\n{}{}\nThe check alone:\n\n{}{}",
         columns("| words a frame | from words | from text | text / words | yardstick, from text | text / yardstick |"),
         calls.collect::<String>(),
-        columns("| words a frame | text |"),
+        columns("| words a frame | text | yardstick | text / yardstick |"),
         checks.collect::<String>(),
     )
 }
@@ -137,11 +140,14 @@ fn measure(row: &Row, before: Option<&Before>) -> Rounds {
         let program = Program::Text { text, budget: 1 };
         check(program, lent)
     };
+    let checked_by_yardstick =
+        |Forms { text, .. }: &Forms, lent: &mut Lent| yardstick::check_text(text, lent);
     let mut tries: Vec<Try> = vec![
         time(&programs, words),
         time(&programs, text),
         time(&programs, yardstick),
         time(&programs, checked),
+        time(&programs, checked_by_yardstick),
     ];
     if let Some(before) = before {
         tries.push(time(&programs, |Forms { text, .. }, lent| {

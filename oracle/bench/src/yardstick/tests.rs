@@ -105,12 +105,18 @@ fn on_random_texts() {
             text.truncate(random.below(text.len() as u64 + 1) as usize);
         }
         let budget = random.below(40);
-        let mut by_library = start.clone();
-        let mut by_yardstick = start;
         let program = Program::Text {
             text: &text,
             budget,
         };
+        let checked = super::check_text(&text, &start);
+        assert_eq!(
+            checked,
+            ola_library::check(program, &start),
+            "text {number}"
+        );
+        let mut by_library = start.clone();
+        let mut by_yardstick = start;
         let wanted = ola_library::run(program, &mut by_library);
         let answer = super::run_text(&text, budget, &mut by_yardstick);
         assert_eq!(answer, wanted, "text {number}");
