@@ -20,12 +20,28 @@ col₁ u v = u / 2 ^ 32 * (v % 2 ^ 32) + col₀ u v / 2 ^ 32
 abbrev pub col₂ : ℕ → ℕ → ℕ
 col₂ u v = u % 2 ^ 32 * (v / 2 ^ 32) + col₁ u v % 2 ^ 32
 
-pub whole : (u v : ℕ)
-    → (u / 2 ^ 32 * (v / 2 ^ 32) + col₁ u v / 2 ^ 32 + col₂ u v / 2 ^ 32) * 2 ^ 64 + (col₂ u v % 2 ^ 32 * 2 ^ 32 + col₀ u v % 2 ^ 32) ≡ u * v
+-- the high word, and the low one
+abbrev pub highOf : ℕ → ℕ → ℕ
+highOf u v = u / 2 ^ 32 * (v / 2 ^ 32) + col₁ u v / 2 ^ 32 + col₂ u v / 2 ^ 32
+
+abbrev pub lowOf : ℕ → ℕ → ℕ
+lowOf u v = col₂ u v % 2 ^ 32 * 2 ^ 32 + col₀ u v % 2 ^ 32
+
+whole : (u v : ℕ) → highOf u v * 2 ^ 64 + lowOf u v ≡ u * v
 whole u v =
     columns (u / 2 ^ 32) (u % 2 ^ 32) (v / 2 ^ 32) (v % 2 ^ 32) (col₀ u v / 2 ^ 32) (col₀ u v % 2 ^ 32) (col₁ u v / 2 ^ 32) (col₁ u v % 2 ^ 32) (col₂ u v / 2 ^ 32) (col₂ u v % 2 ^ 32)
     (sym (div-add-mod' (col₀ u v) (2 ^ 32))) (sym (div-add-mod' (col₁ u v) (2 ^ 32))) (sym (div-add-mod' (col₂ u v) (2 ^ 32)))
     ∙ ap₂ (λ (a b : ℕ). a * b) (div-add-mod' u (2 ^ 32)) (div-add-mod' v (2 ^ 32))
+
+-- a number is its two words
+words : (n h l : ℕ) → l < 2 ^ 64 → h * 2 ^ 64 + l ≡ n → (h ≡ n / 2 ^ 64) × (l ≡ n % 2 ^ 64)
+words n h l k e = (omega arith, omega arith)
+
+pub high-word : (u v : ℕ) → highOf u v ≡ u * v / 2 ^ 64
+high-word u v = words (u * v) (highOf u v) (lowOf u v) (omega arith) (whole u v) .0
+
+pub low-word : (u v : ℕ) → lowOf u v ≡ u * v % 2 ^ 64
+low-word u v = words (u * v) (highOf u v) (lowOf u v) (omega arith) (whole u v) .1
 
 -- the products of two halves
 pub record Small (u v : ℕ) : Type 0 where
