@@ -109,7 +109,7 @@ module _ (n : ℕ) (xs : List ℕ) (o : Rising n xs) (a m : ℕ) where
     ranks-rise = let k : rank (take n xs) a ≤ rank (take n xs) (a + m) = rank-mono (take n xs) a (a + m) (omega arith) in omega arith
 
     -- those between the ranks are present
-    new-cells : m ≡ missing (take n xs) a m + (high - low)
+    pub new-cells : m ≡ missing (take n xs) a m + (high - low)
     new-cells =
         let k : missing (take n xs) a m + rank (take n xs) (a + m) ≡ m + rank (take n xs) a = missing-ranks (take n xs) a m (a + m) (o .rises) refl in
         let l : low ≤ high = ranks-rise in

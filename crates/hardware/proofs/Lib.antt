@@ -7,5 +7,4 @@ pub mod PlaceLaws
 pub mod WriteLaws
 pub mod BufferLaws
 pub mod OverwriteLaws
-pub mod HoldingLaws
-pub mod Storing
+pub mod SpliceLaws

@@ -54,7 +54,7 @@ overwritten-next i v vs [] h = absurd (omega arith)
 overwritten-next zero v vs (x ∷ l) h = refl
 overwritten-next (suc i) v vs (x ∷ l) h = ap (λ (l : List ℕ). x ∷ l) (overwritten-next i v vs l (omega arith))
 
-overwritten-none : (i : ℕ) (l : List ℕ) → overwritten i [] l ≡ l
+pub overwritten-none : (i : ℕ) (l : List ℕ) → overwritten i [] l ≡ l
 overwritten-none i l = take-append-drop i l
 
 length-overwritten : (i : ℕ) (vs l : List ℕ) → i + length vs ≤ length l → length (overwritten i vs l) ≡ length l
@@ -75,10 +75,10 @@ overwritten-front (suc i) vs (x ∷ l) m h = ap (λ (l : List ℕ). x ∷ l) (ov
 -- a part of a buffer is lent and comes back
 
 module _ (i k : ℕ) (vs l : List ℕ) (e : k ≡ length vs) (h : i + length vs ≤ length l) where
-  part-length : length (take k (drop i l)) ≡ length vs
+  pub part-length : length (take k (drop i l)) ≡ length vs
   part-length = let m : length (drop i l) ≡ length l - i = length-drop i l in length-take-le k (drop i l) (omega arith) ∙ e
 
-  part-back : (ys : List ℕ) → length ys ≡ length vs → take i l ++ (ys ++ drop k (drop i l)) ≡ overwritten i ys l
+  pub part-back : (ys : List ℕ) → length ys ≡ length vs → take i l ++ (ys ++ drop k (drop i l)) ≡ overwritten i ys l
   part-back ys q = ap (λ (k : ℕ). take i l ++ (ys ++ drop k (drop i l))) (e ∙ sym q)
 
   pub values-back : (ys : List ℕ) → ys ≡ overlay vs (take k (drop i l)) → take i l ++ (ys ++ drop k (drop i l)) ≡ overwritten i vs l
@@ -140,7 +140,7 @@ within-words a zero h k = omega arith
 within-words a (suc n) h k = let l : a + suc n ≤ heapEnd = k (omega arith) in omega arith
 
 -- many taints are cleared as many zeros are stored
-clean-zeros : (t : Cells ℕ) (a : ℕ) (vs : List ℕ) → cleanMany (cells ℕ) t a vs ≡ putMany t a (zeros vs)
+pub clean-zeros : (t : Cells ℕ) (a : ℕ) (vs : List ℕ) → cleanMany (cells ℕ) t a vs ≡ putMany t a (zeros vs)
 unfolding cleanMany
 clean-zeros t a [] = refl
 clean-zeros t a (v ∷ vs) = clean-zeros (put t a 0) (suc a) vs

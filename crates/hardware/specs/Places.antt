@@ -31,6 +31,19 @@ abbrev pub zeros : List ℕ → List ℕ
 zeros [] = []
 zeros (x ∷ l) = 0 ∷ zeros l
 
+-- n addresses without gaps
+abbrev pub consecutive : ℕ → ℕ → List ℕ
+consecutive a zero = []
+consecutive a (suc n) = a ∷ consecutive (suc a) n
+
+-- values in the place of those from one place to another
+abbrev pub spliced : ℕ → ℕ → List ℕ → List ℕ → List ℕ
+spliced low high vs l = take low l ++ (vs ++ drop high l)
+
+-- of the first n elements those from one place on, moved to another; all others stay
+abbrev pub moved : ℕ → ℕ → ℕ → List ℕ → List ℕ
+moved n from to l = overwritten to (drop from (take n l)) l
+
 -- a place among the first n of k elements, with capacity for one more where it is new
 abbrev pub Within : Found → ℕ → ℕ → Type 0
 Within (At i) n k = (i < n) × (n ≤ k)

@@ -13,7 +13,7 @@ ghost use Rattle.rules.specs.Step.{overlay};
 ghost use Rattle.rules.specs.Taint.{cleanMany};
 ghost use Rattle.rules.specs.Entry.{risingFrom};
 ghost use Rattle.hardware.specs.Buffers.{rank, foundOf, spanOf, missing, anyTaint, cellsOf, cellOf, putMany, Rising, Ordered, Holding};
-ghost use Rattle.hardware.specs.Places.{insertAt, keepOf, growOf, overwritten, zeros, Within};
+ghost use Rattle.hardware.specs.Places.{insertAt, keepOf, growOf, overwritten, zeros, consecutive, spliced, moved, Within};
 
 // Where an address is, or where it would go.
 pub enum Found {
@@ -317,40 +317,88 @@ fn overwrite(tainted: bool, numbers: &mut [u64], taints: &mut [u64], at: usize, 
     }
 }
 
-// Stores values, untainted, one by one to the cells from an address on; how many cells are used afterwards.
-fn store_each(
+// The used elements from a place on, moved up by n places.
+fn move_up(buffer: &mut [u64], count: usize, from: usize, n: usize)
+    requires { ⌜ from ≤ count ⌝ }
+    requires { ⌜ count + n ≤ length (now buffer) ⌝ }
+    ensures { λ _. ⌜ now (buffer .exit) ≡ moved count from (from + n) (now (buffer .entry)) ⌝ }
+{
+    let mut i = count;
+    while from < i {
+        i = i - 1;
+        buffer[i + n] = buffer[i];
+    }
+}
+
+// The numbers from a place on, and in a tainted run their taints, moved up by n places.
+fn move_contents(
+    tainted: bool,
+    numbers: &mut [u64],
+    taints: &mut [u64],
+    count: usize,
+    from: usize,
+    n: usize,
+)
+    requires { ⌜ from ≤ count ⌝ }
+    requires { ⌜ count + n ≤ length (now numbers) ⌝ }
+    requires { ⌜ (tainted ≡ true → length (now taints) ≡ length (now numbers)) ⌝ }
+    ensures { λ _. ⌜ now (numbers .exit) ≡ moved count from (from + n) (now (numbers .entry)) ⌝ }
+    ensures { λ _. ⌜ now (taints .exit) ≡ choose tainted (moved count from (from + n) (now (taints .entry))) (now (taints .entry)) ⌝ }
+{
+    move_up(numbers, count, from, n);
+    if tainted {
+        move_up(taints, count, from, n);
+    }
+}
+
+// Addresses without gaps.
+fn number_cells(addresses: &mut [u64], start: u64)
+    requires { ⌜ start + length (now addresses) < wordEnd ⌝ }
+    ensures { λ _. ⌜ now (addresses .exit) ≡ consecutive start (length (now (addresses .entry))) ⌝ }
+{
+    let mut i = 0;
+    while i < addresses.len() {
+        addresses[i] = start + i as u64;
+        i += 1;
+    }
+}
+
+// Makes room for the n cells from an address on, at their place `low`; how many cells are used afterwards. What lies behind them moves up
+// once, by as many places as cells are new. Their contents are still to be written.
+fn make_room(
     tainted: bool,
     addresses: &mut [u64],
     numbers: &mut [u64],
     taints: &mut [u64],
     count: usize,
+    low: usize,
     start: u64,
-    values: &[u64],
+    n: usize,
 ) -> usize
     requires { ⌜ Ordered tainted count (now addresses) (now numbers) (now taints) ⌝ }
-    requires { ⌜ (0 < length (now values) → start + length (now values) ≤ heapEnd) ⌝ }
-    requires { ⌜ Cells.count (putMany (cellsOf count (now addresses) (now numbers)) start (now values)) ≤ length (now addresses) ⌝ }
-    ensures { λ r. ⌜ Holding tainted (putMany (cellsOf count (now (addresses .entry)) (now (numbers .entry))) start (now (values .entry))) (cleanMany (Cells.cells ℕ) (cellsOf count (now (addresses .entry)) (now (taints .entry))) start (now (values .entry))) r (now (addresses .entry)) (now (numbers .entry)) (now (taints .entry)) (now (addresses .exit)) (now (numbers .exit)) (now (taints .exit)) ⌝ }
+    requires { ⌜ low ≡ rank (take count (now addresses)) start ⌝ }
+    requires { ⌜ start + n < wordEnd ⌝ }
+    requires { ⌜ count + missing (take count (now addresses)) start n ≤ length (now addresses) ⌝ }
+    ensures { λ r. ⌜ r ≡ count + missing (take count (now (addresses .entry))) start n ⌝ }
+    ensures { λ _. ⌜ now (addresses .exit)
+        ≡ overlay (spliced low (rank (take count (now (addresses .entry))) (start + n)) (consecutive start n) (take count (now (addresses .entry))))
+        (now (addresses .entry)) ⌝ }
+    ensures { λ _. ⌜ now (numbers .exit)
+        ≡ moved count (rank (take count (now (addresses .entry))) (start + n)) (low + n) (now (numbers .entry)) ⌝ }
+    ensures { λ _. ⌜ now (taints .exit)
+        ≡ choose tainted (moved count (rank (take count (now (addresses .entry))) (start + n)) (low + n) (now (taints .entry)))
+        (now (taints .entry)) ⌝ }
 {
-    let mut used = count;
-    let mut stored = 0;
-    while stored < values.len() {
-        used = store_by_search(
-            tainted,
-            addresses,
-            numbers,
-            taints,
-            used,
-            start + stored as u64,
-            values[stored],
-            false,
-        );
-        stored += 1;
-    }
-    used
+    let high = rank_of(&addresses[..count], start + n as u64);
+    let new = n - (high - low);
+    move_contents(tainted, numbers, taints, count, high, new);
+    move_up(addresses, count, high, new);
+    let end = low + n;
+    number_cells(&mut addresses[low..end], start);
+    count + new
 }
 
-// The same. Where all cells are present, none has to be moved or searched for.
+// Stores values, untainted, to the cells from an address on; how many cells are used afterwards. Where all are present, none is moved.
 pub fn store_many(
     tainted: bool,
     addresses: &mut [u64],
@@ -370,6 +418,20 @@ pub fn store_many(
             overwrite(tainted, numbers, taints, at, values);
             count
         }
-        Span::Absent => store_each(tainted, addresses, numbers, taints, count, start, values),
+        Span::Absent => {
+            let low = rank_of(&addresses[..count], start);
+            let used = make_room(
+                tainted,
+                addresses,
+                numbers,
+                taints,
+                count,
+                low,
+                start,
+                values.len(),
+            );
+            overwrite(tainted, numbers, taints, low, values);
+            used
+        }
     }
 }

@@ -1,13 +1,26 @@
--- `hardware::cells::store_many` meets its contract: where all cells are present only their contents change, else they are stored one by one.
-use mathlib.Core.Path.{sym, _∙_}
+-- `hardware::cells::store_many` meets its contract: where all cells are present only their contents change, else room is made for them.
+use mathlib.Core.Path.{refl, sym, _∙_}
+use Prim.Native.Nat.{_+_, _≤_}
 use native.Mathlib.Omega.{arith}
-use lib.ListN.{length}
-use borrow.Author.Needs.{needs}
+use lib.ListN.{length, take}
+use lib.Seq.{length-take-le}
 use Rattle.rules.specs.Numbers.{wordEnd}
+use Rattle.hardware.specs.Buffers.{missing}
 use Rattle.hardware.proofs.BufferLaws.{span-at, span-ends}
 use Rattle.hardware.proofs.OverwriteLaws.{within-words, overwritten-holds}
+use Rattle.hardware.proofs.SpliceLaws.{room, count-stored, room-holds}
+use borrow.Author.Needs.{needs}
 use Rattle.hardware.proofs.cells.store_many.Statement.{statement}
 use Rattle.hardware.proofs.cells.store_many.Tie as tie
+
+fits : (c : tie.Start)
+    → c .args .count + missing (take (c .args .count) (c .args .addresses .now)) (c .args .start) (length (c .args .values .now))
+    ≤ length (c .args .addresses .now)
+fits c =
+    let a = c .args in
+    let o = c .pre .0 in
+    let e = count-stored (a .count) (a .addresses .now) (a .numbers .now) (o .addresses) (o .level) (a .start) (a .values .now) in
+    omega (arith, c .pre .1 .1)
 
 find-span-requires : tie.Need-find-span-requires
 unfolding wordEnd
@@ -30,8 +43,30 @@ overwrite-requires c κs =
 enum-told : tie.Need-enum-told
 enum-told c = search needs
 
-store-each-requires : tie.Need-store-each-requires
-store-each-requires c κs = search needs
+slice-reshare-prefix-rank-of : tie.Need-slice-reshare-prefix-rank-of
+slice-reshare-prefix-rank-of c = search needs
+
+slice-aggregate-rank-of : tie.Need-slice-aggregate-rank-of
+slice-aggregate-rank-of c = sym (length-take-le _ _ (c .before .before .before .before .before .before .before .before .before .pre .0 .addresses .within))
+
+rank-of-requires : tie.Need-rank-of-requires
+rank-of-requires c κs = search needs
+
+make-room-requires : tie.Need-make-room-requires
+unfolding wordEnd
+make-room-requires c κs =
+    let s = c .before .before .before .before .before .before .before .before .before .before .before .before .before in
+    let l = c .before .before .before .rank-of .ensures in
+    (s .pre .0, (l, (within-words (s .args .start) (length (s .args .values .now)) (omega arith) (s .pre .1 .0), fits s)))
+
+overwrite-requires-2 : tie.Need-overwrite-requires-2
+overwrite-requires-2 c κs =
+    let s = c .before .before .before .before .before .before .before .before .before .before .before .before .before .before .before .before .before .before .before .before .before .before in
+    let a = s .args in
+    let o = s .pre .0 in
+    let l = c .before .before .before .before .before .before .before .before .before .before .before .before .rank-of .ensures in
+    let r = room (a .count) (a .addresses .now) (o .addresses) (a .start) (length (a .values .now)) _ _ l refl (fits s) in
+    (omega (arith, o .level), λ t. omega (arith, o .level, o .taintLevel t))
 
 same-length : tie.Need-same-length
 same-length c = search needs
@@ -60,7 +95,14 @@ same-length-6 : tie.Need-same-length-6
 same-length-6 c = search needs
 
 returns-2 : tie.Need-returns-2
-returns-2 c = search needs
+returns-2 c =
+    let s = c .before .before .before .before .before .before .before .before .before .before .before .before .before .before .before .before .before .before .before .before .before .before .before .before .before .before .before in
+    let a = s .args in
+    let m = c .before .before .before .before .before .before .before .before .before .before .before .before .before .make-room .ensures in
+    let w = c .before .before .before .before .overwrite2 .ensures in
+    let l = c .before .before .before .before .before .before .before .before .before .before .before .before .before .before .before .before .before .rank-of .ensures in
+    room-holds (a .tainted) (a .count) (a .addresses .now) (a .numbers .now) (a .taints .now) (s .pre .0) (a .start) (a .values .now) _ l (fits s)
+    _ _ _ _ _ _ (m .0) (m .1 .0) (m .1 .1 .0) (m .1 .1 .1) (w .0) (w .1)
 
 pub store-many-spec : {M : Type 1} → statement M
 store-many-spec =
@@ -70,7 +112,11 @@ store-many-spec =
     enum-known-at
     overwrite-requires
     enum-told
-    store-each-requires
+    slice-reshare-prefix-rank-of
+    slice-aggregate-rank-of
+    rank-of-requires
+    make-room-requires
+    overwrite-requires-2
     same-length
     same-length-2
     same-length-3
