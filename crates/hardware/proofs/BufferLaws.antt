@@ -4,10 +4,10 @@ use mathlib.Core.Path.{_≡_, refl, sym, ap, subst, _∙_}
 use mathlib.Core.Bool.{Bool, true, false}
 use mathlib.Core.List.{List}
 use native.Mathlib.Omega.{arith}
-use lib.Dec.{leb, eqb}
+use lib.Dec.{ltb, leb, eqb}
 use lib.ListN.{length, getD, set, take}
 use lib.Seq.{length-take-le, getD-take}
-use borrow.Author.Tests.{leb-true, leb-false, le-leb, lt-leb}
+use borrow.Author.Tests.{ltb-true, ltb-false, leb-true, leb-false, le-leb, lt-leb}
 use Rattle.rules.specs.Numbers.{choose, bit}
 use Rattle.rules.specs.Memory.{absent, present}
 use Rattle.rules.specs.Cells.{get, put, count, addresses, contents}
@@ -19,11 +19,11 @@ use Rattle.hardware.specs.declared.cells.Found.the-variants as Found
 use Rattle.hardware.specs.declared.cells.Cell.the-variants as Cell
 use Rattle.hardware.specs.declared.cells.Span.the-variants as Span
 use Rattle.hardware.specs.Buffers.{rank, has, foundOf, hasAll, spanOf, missing, cellsOf, cellOf, Rising, Ordered, Holding}
-use Rattle.hardware.specs.Places.{keepOf, growOf, Within}
-use Rattle.hardware.proofs.RankLaws.{rank-length, rank-mono, rank-here, has-at, has-none, last-there, there-last, missing-ranks, missing-most}
+use Rattle.hardware.specs.Places.{insertAt, keepOf, growOf, Within}
+use Rattle.hardware.proofs.RankLaws.{rank-length, rank-mono, has-at, has-none, last-there, there-last, missing-ranks, missing-most}
 use Rattle.hardware.proofs.SpanLaws.{absent-get, present-get}
-use Rattle.hardware.proofs.PlaceLaws.{found-at, found-absent, found-below, put-addresses, put-contents, found-within}
-use Rattle.hardware.proofs.WriteLaws.{overlay-set, overlay-taken}
+use Rattle.hardware.proofs.PlaceLaws.{found-at, found-absent, found-below, put-addresses, put-contents, found-fits}
+use Rattle.hardware.proofs.WriteLaws.{overlay-set, overlay-taken, length-put-in}
 
 -- Searches
 
@@ -92,8 +92,12 @@ span-at l a n i e = go (hasAll l a n) refl e
     go true h e = (h, cc)
     go false h e = let z : _≡_ {A = ℕ} 0 1 = cc in absurd (omega arith)
 
-pub place-below : (n : ℕ) (xs : List ℕ) → Rising n xs → (a i : ℕ) → foundOf (take n xs) a ≡ Found.At i → i < n
-place-below n xs o a i f = subst (λ (k : ℕ). i < k) (length-take-le n xs (o .within)) (found-below (take n xs) a i (o .rises) f)
+-- a place that is found lies among the used ones, and one where an address would go not behind them
+pub found-within : (n : ℕ) (xs : List ℕ) → Rising n xs → (a i : ℕ) → Found.At i ≡ foundOf (take n xs) a → i < n
+found-within n xs o a i e = subst (λ (k : ℕ). i < k) (length-take-le n xs (o .within)) (found-below (take n xs) a i (o .rises) (sym e))
+
+pub absent-within : (n : ℕ) (xs : List ℕ) → Rising n xs → (a i : ℕ) → Found.Absent i ≡ foundOf (take n xs) a → i ≤ n
+absent-within n xs o a i e = rank-used n xs o a i (sym (found-absent (take n xs) a i (sym e) .1))
 
 -- Capacity
 
@@ -132,6 +136,19 @@ module _ (n : ℕ) (xs : List ℕ) (o : Rising n xs) (a m : ℕ) where
             let w : n ≤ length xs = o .within in
             lt-leb (m - (high - low)) (length xs - n) (omega arith)
 
+-- of one cell: one that is found needs none
+pub capacity-for-found : (n : ℕ) (xs : List ℕ) → n ≤ length xs → (a i : ℕ) → Found.At i ≡ foundOf (take n xs) a
+    → leb (n + missing (take n xs) a 1) (length xs) ≡ true
+capacity-for-found n xs w a i e = rw (found-at (take n xs) a i (sym e) .0) (le-leb (n + 0) (length xs) (omega arith))
+
+pub capacity-for-absent : (n : ℕ) (xs : List ℕ) (a i : ℕ) → Found.Absent i ≡ foundOf (take n xs) a
+    → leb (n + missing (take n xs) a 1) (length xs) ≡ ltb n (length xs)
+capacity-for-absent n xs a i e = rw (found-absent (take n xs) a i (sym e) .0) (go (ltb n (length xs)) refl)
+  where
+    go : (t : Bool) → ltb n (length xs) ≡ t → leb (n + 1) (length xs) ≡ t
+    go true h = let k : n < length xs = ltb-true n (length xs) h in le-leb (n + 1) (length xs) (omega arith)
+    go false h = let k : length xs ≤ n = ltb-false n (length xs) h in lt-leb (n + 1) (length xs) (omega arith)
+
 -- A buffer of contents beside the addresses
 
 module _ (n : ℕ) (xs bs : List ℕ) (o : Rising n xs) (l : length bs ≡ length xs) where
@@ -155,7 +172,7 @@ module _ (n : ℕ) (xs bs : List ℕ) (o : Rising n xs) (l : length bs ≡ lengt
       present-get 0 (cellsOf n xs bs) a rises-of (ap (λ (l : List ℕ). has l a) addresses-of ∙ q .0)
       ∙ ap present (ap (λ (l : List ℕ). getD l (rank (addresses (cellsOf n xs bs)) a) 0) contents-of
       ∙ ap (λ (k : ℕ). getD (take n bs) k 0) (ap (λ (l : List ℕ). rank l a) addresses-of ∙ q .1)
-      ∙ getD-take n bs i 0 (place-below n xs o a i f))
+      ∙ getD-take n bs i 0 (found-within n xs o a i (sym f)))
 
   pub get-absent : (a i : ℕ) → foundOf (take n xs) a ≡ Found.Absent i → get (cellsOf n xs bs) a ≡ absent
   get-absent a i f = absent-get (cellsOf n xs bs) a (ap (λ (l : List ℕ). has l a) addresses-of ∙ found-absent (take n xs) a i f .0)
@@ -180,7 +197,7 @@ module _ (n : ℕ) (xs bs : List ℕ) (o : Rising n xs) (l : length bs ≡ lengt
       sym (ap length (addresses-stored a v)) ∙ length-addresses (put (cellsOf n xs bs) a v) in
       let w : n ≤ length xs = o .within in
       let i : Within (foundOf (take n xs) a) n k =
-      subst (λ (m : ℕ). Within (foundOf (take n xs) a) m k) u (found-within (take n xs) a k (o .rises) (omega arith) (omega arith)) in
+      subst (λ (m : ℕ). Within (foundOf (take n xs) a) m k) u (found-fits (take n xs) a k (o .rises) (omega arith) (omega arith)) in
       subst (λ (f : Found). Within f n k) (sym e) i
 
 -- What is read
@@ -223,25 +240,28 @@ module _ (tainted : Bool) (n : ℕ) (xs ns ts : List ℕ) (o : Ordered tainted n
         taints = k ∙ taints-stored tainted refl;
       }
 
--- a cell that is present where it is looked for is written there
-module _ (tainted : Bool) (n : ℕ) (xs ns ts : List ℕ) (o : Ordered tainted n xs ns ts) (a v : ℕ) (t : Bool) (i : ℕ) (h : i < n) (g : getD xs i 0 ≡ a) where
-  stands : Found.At i ≡ foundOf (take n xs) a
-  stands =
-      let k : length (take n xs) ≡ n = length-take-le n xs (o .addresses .within) in
-      found-present n xs (o .addresses) a i
-      (sym (rank-here (take n xs) a i (o .addresses .rises) (omega arith) (getD-take n xs i 0 h ∙ g))) h g
+-- a cell that is found is written at its place
+module _ (tainted : Bool) (n : ℕ) (xs ns ts : List ℕ) (o : Ordered tainted n xs ns ts) (a v : ℕ) (t : Bool) (i : ℕ)
+    (e : Found.At i ≡ foundOf (take n xs) a) where
+  set-used : (bs : List ℕ) (w : ℕ) → length bs ≡ length xs → set bs i w ≡ overlay (set (take n bs) i w) bs
+  set-used bs w l = let k : n ≤ length xs = o .addresses .within in overlay-set n bs i w (found-within n xs (o .addresses) a i e) (omega arith)
 
-  pub written-holds : (s : Bool) → tainted ≡ s
-      → Holding tainted (put (cellsOf n xs ns) a v) (put (cellsOf n xs ts) a (bit t)) n xs ns ts xs (set ns i v) (choose s (set ts i (bit t)) ts)
-  written-holds s q =
+  taints-set : (s : Bool) → tainted ≡ s → choose s (set ts i (bit t)) ts ≡ choose s (overlay (set (take n ts) i (bit t)) ts) ts
+  taints-set true q = set-used ts (bit t) (o .taintLevel q)
+  taints-set false q = refl
+
+  pub written-holds : Holding tainted (put (cellsOf n xs ns) a v) (put (cellsOf n xs ts) a (bit t)) n
+      xs ns ts xs (set ns i v) (choose tainted (set ts i (bit t)) ts)
+  written-holds =
       let w : n ≤ length xs = o .addresses .within in
-      let l : length ns ≡ length xs = o .level in
-      store-holds tainted n xs ns ts o a v t (Found.At i) stands n xs (set ns i v) _
-      (sym (length-take-le n xs w), sym (overlay-taken n xs w)) (overlay-set n ns i v h (omega arith)) (rw q (go s q))
-    where
-      go : (s : Bool) → tainted ≡ s → choose s (set ts i (bit t)) ts ≡ choose s (overlay (set (take n ts) i (bit t)) ts) ts
-      go true q =
-          let w : n ≤ length xs = o .addresses .within in
-          let l : length ts ≡ length xs = o .taintLevel q in
-          overlay-set n ts i (bit t) h (omega arith)
-      go false q = refl
+      store-holds tainted n xs ns ts o a v t (Found.At i) e n xs (set ns i v) _
+      (sym (length-take-le n xs w), sym (overlay-taken n xs w)) (set-used ns v (o .level)) (taints-set tainted refl)
+
+-- a new one is put in where it would go
+pub inserted-holds : (tainted : Bool) (n : ℕ) (xs ns ts : List ℕ) → Ordered tainted n xs ns ts → n < length xs → (a v : ℕ) (t : Bool) (i : ℕ)
+    → Found.Absent i ≡ foundOf (take n xs) a → (xs′ ns′ ts′ : List ℕ) → xs′ ≡ overlay (insertAt i a (take n xs)) xs
+    → ns′ ≡ overlay (insertAt i v (take n ns)) ns → (s : Bool) → tainted ≡ s → ts′ ≡ choose s (overlay (insertAt i (bit t) (take n ts)) ts) ts
+    → Holding tainted (put (cellsOf n xs ns) a v) (put (cellsOf n xs ts) a (bit t)) (n + 1) xs ns ts xs′ ns′ ts′
+inserted-holds tainted n xs ns ts o h a v t i e xs′ ns′ ts′ f g s q k =
+    store-holds tainted n xs ns ts o a v t (Found.Absent i) e (n + 1) xs′ ns′ ts′ (length-put-in n i a xs h, f) g
+    (k ∙ ap (λ (s : Bool). choose s (overlay (insertAt i (bit t) (take n ts)) ts) ts) (sym q))

@@ -113,8 +113,8 @@ put-contents n (cell b w c) a v r = go (put-contents (suc b) c a v (rising-rest 
         rw (ne-eqb b a (λ q. m (sym q)), lt-ltb b a (omega arith)) (ap (λ (l : List ℕ). w ∷ l) h ∙ last (has (addresses c) a))
 
 -- where the store fits, so does what was found
-pub found-within : (l : List ℕ) (a k : ℕ) → risingFrom 0 l ≡ true → length l ≤ k → length (growOf (foundOf l a) a l) ≤ k → Within (foundOf l a) (length l) k
-found-within l a k r m h = go (has l a) refl h
+pub found-fits : (l : List ℕ) (a k : ℕ) → risingFrom 0 l ≡ true → length l ≤ k → length (growOf (foundOf l a) a l) ≤ k → Within (foundOf l a) (length l) k
+found-fits l a k r m h = go (has l a) refl h
   where
     go : (t : Bool) → has l a ≡ t → length (growOf (choose t (At (rank l a)) (Absent (rank l a))) a l) ≤ k
         → Within (choose t (At (rank l a)) (Absent (rank l a))) (length l) k

@@ -5,13 +5,14 @@ ghost use mathlib.Core.Path.{_≡_};
 ghost use mathlib.Core.Bool.{true};
 ghost use Prim.Native.Nat.{ℕ, _+_, _≤_, _<_};
 ghost use lib.Dec.{leb, ltb};
-ghost use lib.ListN.{length, take, drop};
+ghost use lib.ListN.{length, set, take, drop};
 ghost use Rattle.rules.specs.Numbers.{choose, bit, heapEnd, wordEnd};
 ghost use Rattle.rules.specs.Cells as Cells;
 ghost use Rattle.rules.specs.Cells.{put};
 ghost use Rattle.rules.specs.Step.{overlay};
 ghost use Rattle.rules.specs.Taint.{cleanMany};
 ghost use Rattle.rules.specs.Entry.{risingFrom};
+ghost use Rattle.hardware.specs.declared.cells.Found.the-variants as Found;
 ghost use Rattle.hardware.specs.Buffers.{rank, foundOf, spanOf, missing, anyTaint, cellsOf, cellOf, putMany, Rising, Ordered, Holding};
 ghost use Rattle.hardware.specs.Places.{insertAt, keepOf, growOf, overwritten, zeros, consecutive, spliced, moved, Within};
 
@@ -97,7 +98,7 @@ fn rank_of(used: &[u64], address: u64) -> usize
 }
 
 // Where an address is.
-fn find(addresses: &[u64], count: usize, address: u64) -> Found
+pub fn find(addresses: &[u64], count: usize, address: u64) -> Found
     requires { ⌜ Rising count (now addresses) ⌝ }
     ensures { λ r. ⌜ r ≡ foundOf (take count (now (addresses .entry))) address ⌝ }
 {
@@ -192,6 +193,52 @@ fn insert_at(buffer: &mut [u64], count: usize, at: usize, v: u64)
         i = i - 1;
     }
     buffer[at] = v;
+}
+
+// Writes a number, and in a tainted run its taint, to the cell at a place.
+pub fn write_at(
+    tainted: bool,
+    numbers: &mut [u64],
+    taints: &mut [u64],
+    at: usize,
+    number: u64,
+    taint: bool,
+)
+    requires { ⌜ at < length (now numbers) ⌝ }
+    requires { ⌜ (tainted ≡ true → at < length (now taints)) ⌝ }
+    ensures { λ _. ⌜ now (numbers .exit) ≡ set (now (numbers .entry)) at number ⌝ }
+    ensures { λ _. ⌜ now (taints .exit) ≡ choose tainted (set (now (taints .entry)) at (bit taint)) (now (taints .entry)) ⌝ }
+{
+    numbers[at] = number;
+    if tainted {
+        taints[at] = taint as u64;
+    }
+}
+
+// Puts a new cell in at the place where its address would go.
+pub fn insert(
+    tainted: bool,
+    addresses: &mut [u64],
+    numbers: &mut [u64],
+    taints: &mut [u64],
+    count: usize,
+    at: usize,
+    address: u64,
+    number: u64,
+    taint: bool,
+)
+    requires { ⌜ Ordered tainted count (now addresses) (now numbers) (now taints) ⌝ }
+    requires { ⌜ count < length (now addresses) ⌝ }
+    requires { ⌜ Found.Absent at ≡ foundOf (take count (now addresses)) address ⌝ }
+    ensures { λ _. ⌜ Holding tainted (put (cellsOf count (now (addresses .entry)) (now (numbers .entry))) address number)
+        (put (cellsOf count (now (addresses .entry)) (now (taints .entry))) address (bit taint)) (count + 1)
+        (now (addresses .entry)) (now (numbers .entry)) (now (taints .entry)) (now (addresses .exit)) (now (numbers .exit)) (now (taints .exit)) ⌝ }
+{
+    insert_at(numbers, count, at, number);
+    insert_at(addresses, count, at, address);
+    if tainted {
+        insert_at(taints, count, at, taint as u64);
+    }
 }
 
 // v in the place of what was found, or put in where it would go.

@@ -6,7 +6,7 @@ use borrow.Author.Needs.{needs}
 use lib.ListN.{take}
 use Rattle.hardware.specs.declared.cells.Found.the-variants.{At}
 use Rattle.hardware.specs.Buffers.{foundOf}
-use Rattle.hardware.proofs.BufferLaws.{place-below, read-tainted, read-plain, read-absent}
+use Rattle.hardware.proofs.BufferLaws.{found-within, read-tainted, read-plain, read-absent}
 use Rattle.hardware.proofs.cells.read.Statement.{statement}
 use Rattle.hardware.proofs.cells.read.Tie as tie
 
@@ -28,7 +28,7 @@ module _ (c : tie.After-at) where
   at-place = sym (c .before .before .find .ensures) ∙ c .at .given .1
 
   place-used : place < entry .args .count
-  place-used = place-below (entry .args .count) (entry .args .addresses .now) (entry .pre .addresses) (entry .args .address) place at-place
+  place-used = found-within (entry .args .count) (entry .args .addresses .now) (entry .pre .addresses) (entry .args .address) place (sym at-place)
 
 mul-t14 : tie.Need-mul-t14
 mul-t14 c = let f = c .before in omega (arith, place-used f, entry f .pre, entry f .good)

@@ -1,12 +1,30 @@
 -- `hardware::cells::store` meets its contract: a cell that stands at the place without gaps is written there, every other one by search.
-use mathlib.Core.Path.{sym}
-use mathlib.Core.Bool.{true, false}
+use Prim.Native.Nat.{ℕ, _<_}
+use mathlib.Core.Path.{_≡_, sym, subst, _∙_}
+use mathlib.Core.Bool.{Bool, true, false}
+use mathlib.Core.List.{List}
 use native.Mathlib.Omega.{arith}
 use borrow.Author.Needs.{needs}
-use lib.Seq.{length-take-le}
-use Rattle.hardware.proofs.BufferLaws.{written-holds}
+use lib.ListN.{length, getD, set, take}
+use lib.Seq.{length-take-le, getD-take}
+use Rattle.rules.specs.Numbers.{choose, bit}
+use Rattle.rules.specs.Cells.{put}
+use Rattle.hardware.specs.Buffers.{cellsOf, Ordered, Holding}
+use Rattle.hardware.proofs.RankLaws.{rank-here}
+use Rattle.hardware.proofs.BufferLaws.{found-present, written-holds}
 use Rattle.hardware.proofs.cells.store.Statement.{statement}
 use Rattle.hardware.proofs.cells.store.Tie as tie
+
+-- an address that stands at a place is found there
+written : (tainted : Bool) (n : ℕ) (xs ns ts : List ℕ) → Ordered tainted n xs ns ts → (a v : ℕ) (t : Bool) (i : ℕ) → i < n → getD xs i 0 ≡ a
+    → (s : Bool) → tainted ≡ s
+    → Holding tainted (put (cellsOf n xs ns) a v) (put (cellsOf n xs ts) a (bit t)) n xs ns ts xs (set ns i v) (choose s (set ts i (bit t)) ts)
+written tainted n xs ns ts o a v t i h g s q =
+    let k : length (take n xs) ≡ n = length-take-le n xs (o .addresses .within) in
+    let r = rank-here (take n xs) a i (o .addresses .rises) (omega arith) (getD-take n xs i 0 h ∙ g) in
+    subst
+    (λ (s : Bool). Holding tainted (put (cellsOf n xs ns) a v) (put (cellsOf n xs ts) a (bit t)) n xs ns ts xs (set ns i v) (choose s (set ts i (bit t)) ts))
+    q (written-holds tainted n xs ns ts o a v t i (found-present n xs (o .addresses) a i (sym r) h g))
 
 slice-reshare-prefix-place-without-gaps : tie.Need-slice-reshare-prefix-place-without-gaps
 slice-reshare-prefix-place-without-gaps c = search needs
@@ -52,7 +70,7 @@ same-length-3 c = search needs
 returns : tie.Need-returns
 returns c =
     let s = c .before .before .before .before .before .before .before .before .before in
-    written-holds _ _ _ _ _ (s .pre .0) _ _ (s .args .taint) _ (c .before .before .before .if1 .taken) (c .before .if2 .taken) true (c .if3 .taken)
+    written _ _ _ _ _ (s .pre .0) _ _ (s .args .taint) _ (c .before .before .before .if1 .taken) (c .before .if2 .taken) true (c .if3 .taken)
 
 same-length-4 : tie.Need-same-length-4
 same-length-4 c = search needs
@@ -63,7 +81,7 @@ same-length-5 c = search needs
 returns-2 : tie.Need-returns-2
 returns-2 c =
     let s = c .before .before .before .before .before .before .before .before .before in
-    written-holds _ _ _ _ _ (s .pre .0) _ _ (s .args .taint) _ (c .before .before .before .if1 .taken) (c .before .if2 .taken) false (c .if3 .left)
+    written _ _ _ _ _ (s .pre .0) _ _ (s .args .taint) _ (c .before .before .before .if1 .taken) (c .before .if2 .taken) false (c .if3 .left)
 
 store-by-search-requires : tie.Need-store-by-search-requires
 store-by-search-requires c κs = search needs

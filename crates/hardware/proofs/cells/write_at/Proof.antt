@@ -1,0 +1,55 @@
+-- `hardware::cells::write_at` meets its contract: the number is set, and in a tainted run the taint.
+use mathlib.Core.Path.{_≡_, refl}
+use mathlib.Core.Bool.{true}
+use native.Mathlib.Omega.{arith}
+use borrow.Author.Needs.{needs}
+use Rattle.hardware.proofs.cells.write_at.Statement.{statement}
+use Rattle.hardware.proofs.cells.write_at.Tie as tie
+
+mul-numbers : tie.Need-mul-numbers
+mul-numbers c = search needs
+
+slice-write-numbers : tie.Need-slice-write-numbers
+slice-write-numbers c = omega arith
+
+cast-taints : tie.Need-cast-taints
+cast-taints c = search needs
+
+mul-taints : tie.Need-mul-taints
+mul-taints c = search needs
+
+slice-write-taints : tie.Need-slice-write-taints
+slice-write-taints c = c .before .pre .1 (c .if1 .taken)
+
+same-length : tie.Need-same-length
+same-length c = search needs
+
+same-length-2 : tie.Need-same-length-2
+same-length-2 c = search needs
+
+returns : tie.Need-returns
+returns c =
+    let q = c .if1 .taken in
+    let t : c .before .args .tainted ≡ true = cc in
+    (refl, rw t)
+
+same-length-3 : tie.Need-same-length-3
+same-length-3 c = search needs
+
+returns-2 : tie.Need-returns-2
+returns-2 c = search needs
+
+pub write-at-spec : {M : Type 1} → statement M
+write-at-spec =
+    tie.close
+    (tie.spec
+    mul-numbers
+    slice-write-numbers
+    cast-taints
+    mul-taints
+    slice-write-taints
+    same-length
+    same-length-2
+    returns
+    same-length-3
+    returns-2)
