@@ -1,45 +1,95 @@
--- What it says of the rules' reads that a cell below an address was read, or is absent.
-use Prim.Native.Nat.{ℕ, _-_}
-use mathlib.Core.Path.{_≡_, refl, ap}
+-- RET's two cells below R9: among rising addresses they stand side by side.
+use Prim.Native.Nat.{ℕ, suc, _-_, _≤_, _<_}
+use mathlib.Core.Path.{_≡_, refl, sym, ap, _∙_}
 use mathlib.Core.Bool.{Bool, true, false, _&&_}
 use mathlib.Core.List.{List}
 use native.Mathlib.Omega.{arith}
-use lib.Dec.{leb}
+use lib.Dec.{leb, eqb}
+use lib.ListN.{getD, take}
+use borrow.Author.Tests.{le-leb, lt-leb}
 use Rattle.rules.specs.declared.Refusal.the-variants.{CellAbsent}
-use Rattle.rules.specs.Numbers.{choose}
 use Rattle.rules.specs.Results.{refuse, pass, require}
 use Rattle.rules.specs.Memory.{Slot, absent, present}
 use Rattle.rules.specs.Cells.{Cells, get, cells}
 use Rattle.rules.specs.Step.{slotValue, readBelow}
 use Rattle.rules.specs.Taint.{cellTaint}
-use Rattle.hardware.specs.declared.cells.Cell.the-variants as Cell
-use Rattle.hardware.specs.Buffers.{cellsOf, slotCell, cellOf}
-use Rattle.effects.specs.Operations.{cellBelow}
+use Rattle.hardware.specs.declared.cells.Found.the-variants as Found
+use Rattle.hardware.specs.Buffers.{rank, foundOf, cellsOf, Rising, Ordered}
+use Rattle.hardware.proofs.RankLaws.{rank-next}
+use Rattle.hardware.proofs.PlaceLaws.{found-at}
+use Rattle.hardware.proofs.BufferLaws.{found-present, found-other, found-end, get-found, get-absent}
+use Rattle.effects.specs.Actions.{SetRegister, Refuse}
+use Rattle.effects.specs.Effects.{onResult, sinkWhere, returnsFrom}
 
-module _ (tainted : Bool) (count : ℕ) (xs ns ts : List ℕ) (r k : ℕ) where
+-- the place behind that of an address is the next address's
+module _ (n : ℕ) (xs : List ℕ) (o : Rising n xs) (a i b j : ℕ) (f : foundOf (take n xs) a ≡ Found.At i) (p : b ≡ suc a) (q : j ≡ suc i) where
+  next-rank : j ≡ rank (take n xs) b
+  next-rank =
+      let g = found-at (take n xs) a i f in
+      let k : rank (take n xs) (suc a) ≡ suc (rank (take n xs) a) = rw (g .0) at (rank-next 0 (take n xs) a (o .rises)) in
+      q ∙ sym (ap (rank (take n xs)) p ∙ k ∙ ap suc (g .1))
+
+  pub next-present : j < n → getD xs j 0 ≡ b → foundOf (take n xs) b ≡ Found.At j
+  next-present h g = sym (found-present n xs o b j next-rank h g)
+
+  pub next-other : j < n → (getD xs j 0 ≡ b → ⊥) → foundOf (take n xs) b ≡ Found.Absent j
+  next-other h g = sym (found-other n xs o b j next-rank h g)
+
+  pub next-end : n ≤ j → foundOf (take n xs) b ≡ Found.Absent j
+  next-end h = sym (found-end n xs o b j next-rank h)
+
+module _ (tainted : Bool) (n : ℕ) (xs ns ts : List ℕ) (o : Ordered tainted n xs ns ts) (r : ℕ) where
   abbrev c : Cells ℕ
-  c = cellsOf count xs ns
+  c = cellsOf n xs ns
 
   abbrev t : Cells ℕ
-  t = cellsOf count xs ts
+  t = cellsOf n xs ts
 
-  pub below-present : {n : ℕ} {b : Bool} → cellBelow (cellOf tainted c t) r k ≡ Cell.Present n b
-      → (readBelow (cells ℕ) c r k ≡ pass n) × ((tainted && cellTaint (cells ℕ) t (r - k)) ≡ b)
+  below-present : (k i : ℕ) → k ≤ r → foundOf (take n xs) (r - k) ≡ Found.At i → readBelow (cells ℕ) c r k ≡ pass (getD ns i 0)
   unfolding require
-  below-present {n} {b} e = go (leb k r) (get c (r - k)) e
-    where
-      go : (l : Bool) (s : Slot ℕ) → choose l (slotCell s (tainted && cellTaint (cells ℕ) t (r - k))) Cell.Absent ≡ Cell.Present n b
-          → (require l CellAbsent (slotValue (cells ℕ) s) ≡ pass n) × ((tainted && cellTaint (cells ℕ) t (r - k)) ≡ b)
-      go true absent e = absurd (let z : _≡_ {A = ℕ} 0 1 = cc in omega arith)
-      go true (present m) e = (ap pass (cc), cc)
-      go false s e = absurd (let z : _≡_ {A = ℕ} 0 1 = cc in omega arith)
+  below-present k i h f = rw (le-leb k r h, get-found n xs ns (o .addresses) (o .level) (r - k) i f)
 
-  pub below-absent : cellBelow (cellOf tainted c t) r k ≡ Cell.Absent → readBelow (cells ℕ) c r k ≡ refuse CellAbsent
-  unfolding require
-  below-absent e = go (leb k r) (get c (r - k)) e
+  taint-found : (a i : ℕ) → foundOf (take n xs) a ≡ Found.At i → (tainted && cellTaint (cells ℕ) t a) ≡ (tainted && eqb (getD ts i 0) 1)
+  taint-found a i f = go tainted refl
     where
-      go : (l : Bool) (s : Slot ℕ) → choose l (slotCell s (tainted && cellTaint (cells ℕ) t (r - k))) Cell.Absent ≡ Cell.Absent
-          → require l CellAbsent (slotValue (cells ℕ) s) ≡ refuse CellAbsent
-      go true absent e = refl
-      go true (present m) e = absurd (let z : _≡_ {A = ℕ} 0 1 = cc in omega arith)
-      go false s e = refl
+      go : (s : Bool) → tainted ≡ s → (s && cellTaint (cells ℕ) t a) ≡ (s && eqb (getD ts i 0) 1)
+      go true e = rw (get-found n xs ts (o .addresses) (o .taintLevel e) a i f)
+      go false e = refl
+
+  below-absent : (k i : ℕ) → foundOf (take n xs) (r - k) ≡ Found.Absent i → readBelow (cells ℕ) c r k ≡ refuse CellAbsent
+  unfolding require
+  below-absent k i f = rw (get-absent n xs ns (o .addresses) (o .level) (r - k) i f) (go (leb k r))
+    where
+      go : (s : Bool) → require s CellAbsent (slotValue (cells ℕ) absent) ≡ refuse CellAbsent
+      go true = refl
+      go false = refl
+
+  -- where one of them is absent
+
+  pub first-absent : (i : ℕ) → foundOf (take n xs) (r - 1) ≡ Found.Absent i → returnsFrom tainted c t r ≡ Refuse CellAbsent
+  unfolding onResult
+  first-absent i f = rw (below-absent 1 i f)
+
+  second-refuses : readBelow (cells ℕ) c r 2 ≡ refuse CellAbsent → returnsFrom tainted c t r ≡ Refuse CellAbsent
+  unfolding require onResult
+  second-refuses e = rw e (go (leb 1 r) (get c (r - 1)))
+    where
+      go : (s : Bool) (q : Slot ℕ) → onResult (require s CellAbsent (slotValue (cells ℕ) q)) (λ pc. Refuse CellAbsent) ≡ Refuse CellAbsent
+      go true absent = refl
+      go true (present m) = refl
+      go false q = refl
+
+  pub second-absent : (i : ℕ) → foundOf (take n xs) (r - 2) ≡ Found.Absent i → returnsFrom tainted c t r ≡ Refuse CellAbsent
+  second-absent i f = second-refuses (below-absent 2 i f)
+
+  pub no-second : r < 2 → returnsFrom tainted c t r ≡ Refuse CellAbsent
+  unfolding require
+  no-second h = second-refuses (rw (lt-leb 2 r h))
+
+  -- where both are present
+  pub both-present : (i j : ℕ) → 2 ≤ r → foundOf (take n xs) (r - 2) ≡ Found.At i → foundOf (take n xs) (r - 1) ≡ Found.At j
+      → returnsFrom tainted c t r
+      ≡ sinkWhere (tainted && eqb (getD ts j 0) 1) (SetRegister 9 (getD ns i 0) (tainted && eqb (getD ts i 0) 1) (getD ns j 0))
+  unfolding onResult
+  both-present i j h f g =
+      rw (below-present 1 j (omega arith) g, below-present 2 i h f, taint-found (r - 1) j g, taint-found (r - 2) i f)

@@ -5,3 +5,4 @@ pub mod Views
 pub mod Effects
 pub mod Operations
 pub mod Carrying
+pub mod Deciding

@@ -1,52 +1,44 @@
 // Numbers to a register: ADD, MUL and NOT in the field, EQ and NEQ, AND, OR, XOR and GTE of small operands, MOV.
 use crate::Action;
-use crate::Mode;
-use crate::taints;
 use goldilocks::FieldElement;
-use program::table::Row;
 use rules::Refusal;
 ghost use mathlib.Core.Path.{_≡_};
 ghost use mathlib.Core.List.{List};
 ghost use Prim.Native.Nat.{ℕ};
 ghost use Rattle.rules.specs.Numbers.{bit};
 ghost use Rattle.rules.specs.Step.{isSmall};
-ghost use Rattle.program.specs.Rows.{instructionFrom};
-ghost use Rattle.operands.specs.Meanings.{RegistersBelow};
-ghost use Rattle.effects.specs.Actions.{meant, SetRegister};
+ghost use Rattle.effects.specs.Actions.{SetRegister, Means};
 ghost use Rattle.effects.specs.Effects.{setsComplement, setsSmall};
-ghost use Rattle.effects.specs.Operations.{op1TaintOf, bothTaintOf, setsElement};
+ghost use Rattle.effects.specs.Operations.{setsElement};
 
 // AND, OR, XOR and GTE take operands below it, RC up to it.
 pub const SMALL_END: u64 = 0xFFFF_FFFF;
 
 // ADD and MUL, by their result.
-pub fn in_field(mode: Mode, row: Row, result: FieldElement, register: usize, next: u64) -> Action
-    requires { ⌜ RegistersBelow row ⌝ }
-    ensures { λ r. ⌜ ((ws : List ℕ) → meant r ≡ setsElement result register (bothTaintOf mode (instructionFrom ws row)) next) ⌝ }
+pub fn in_field(result: FieldElement, register: usize, next: u64) -> Action
+    ensures { λ r. ⌜ ((l : List ℕ) → Means l r (λ t. setsElement result register t next)) ⌝ }
 {
     let FieldElement::Element(x) = result else {
         return Action::refuse(Refusal::NotInField);
     };
-    Action::set_register(register, x.value, taints::both_taint(mode, row), next)
+    Action::set_register(register, x.value, false, next)
 }
 
 // NOT.
-pub fn complement(mode: Mode, row: Row, a: u64, register: usize, next: u64) -> Action
-    requires { ⌜ RegistersBelow row ⌝ }
-    ensures { λ r. ⌜ ((ws : List ℕ) → meant r ≡ setsComplement a register (op1TaintOf mode (instructionFrom ws row)) next) ⌝ }
+pub fn complement(a: u64, register: usize, next: u64) -> Action
+    ensures { λ r. ⌜ ((l : List ℕ) → Means l r (λ t. setsComplement a register t next)) ⌝ }
 {
     let FieldElement::Element(x) = goldilocks::complement(a) else {
         return Action::refuse(Refusal::NotInField);
     };
-    Action::set_register(register, x.value, taints::op1_taint(mode, row), next)
+    Action::set_register(register, x.value, false, next)
 }
 
 // EQ and NEQ, by their result.
-pub fn equality(mode: Mode, row: Row, result: bool, register: usize, next: u64) -> Action
-    requires { ⌜ RegistersBelow row ⌝ }
-    ensures { λ r. ⌜ ((ws : List ℕ) → meant r ≡ SetRegister register (bit result) (bothTaintOf mode (instructionFrom ws row)) next) ⌝ }
+pub fn equality(result: bool, register: usize, next: u64) -> Action
+    ensures { λ r. ⌜ ((l : List ℕ) → Means l r (λ t. SetRegister register (bit result) t next)) ⌝ }
 {
-    Action::set_register(register, result as u64, taints::both_taint(mode, row), next)
+    Action::set_register(register, result as u64, false, next)
 }
 
 fn is_small(n: u64) -> bool
@@ -56,17 +48,8 @@ fn is_small(n: u64) -> bool
 }
 
 // AND, OR, XOR and GTE, by their operands and their result.
-pub fn small(
-    mode: Mode,
-    row: Row,
-    a: u64,
-    b: u64,
-    result: u64,
-    register: usize,
-    next: u64,
-) -> Action
-    requires { ⌜ RegistersBelow row ⌝ }
-    ensures { λ r. ⌜ ((ws : List ℕ) → meant r ≡ setsSmall a b result register (bothTaintOf mode (instructionFrom ws row)) next) ⌝ }
+pub fn small(a: u64, b: u64, result: u64, register: usize, next: u64) -> Action
+    ensures { λ r. ⌜ ((l : List ℕ) → Means l r (λ t. setsSmall a b result register t next)) ⌝ }
 {
     if !is_small(a) {
         return Action::refuse(Refusal::NotSmall);
@@ -74,13 +57,12 @@ pub fn small(
     if !is_small(b) {
         return Action::refuse(Refusal::NotSmall);
     }
-    Action::set_register(register, result, taints::both_taint(mode, row), next)
+    Action::set_register(register, result, false, next)
 }
 
 // MOV.
-pub fn mov(mode: Mode, row: Row, a: u64, register: usize, next: u64) -> Action
-    requires { ⌜ RegistersBelow row ⌝ }
-    ensures { λ r. ⌜ ((ws : List ℕ) → meant r ≡ SetRegister register a (op1TaintOf mode (instructionFrom ws row)) next) ⌝ }
+pub fn mov(a: u64, register: usize, next: u64) -> Action
+    ensures { λ r. ⌜ ((l : List ℕ) → Means l r (λ t. SetRegister register a t next)) ⌝ }
 {
-    Action::set_register(register, a, taints::op1_taint(mode, row), next)
+    Action::set_register(register, a, false, next)
 }

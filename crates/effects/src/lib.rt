@@ -11,7 +11,12 @@ pub mod tape;
 
 use rules::Refusal;
 ghost use mathlib.Core.Path.{_≡_};
-ghost use Rattle.effects.specs.Actions.{SetRegister, Store, Jump, LoadTape, StoreTape, CallContract, End, Refuse, Sink, meant};
+ghost use mathlib.Core.Bool.{_||_};
+ghost use mathlib.Core.List.{List};
+ghost use Prim.Native.Nat.{ℕ};
+ghost use Rattle.hardware.specs.declared.cells.Found.the-variants as Found;
+ghost use Rattle.hardware.specs.Buffers.{foundOf};
+ghost use Rattle.effects.specs.Actions.{SetRegister, Store, Jump, LoadTape, StoreTape, CallContract, End, Refuse, Sink, Means};
 
 // What is run: the plain machine, or the tainted one with the taints of its registers, bit r for register r.
 pub struct Mode {
@@ -28,7 +33,8 @@ pub struct Counts {
 
 pub enum Kind {
     SetRegister,
-    Store,
+    StoreAt,
+    Insert,
     Jump,
     LoadTape,
     StoreTape,
@@ -38,8 +44,9 @@ pub enum Kind {
     Sink,
 }
 
-// What a step does. One flat record for all kinds, so that it stays in the processor's registers: what a kind does not need is 0. `next`
-// is the pc after the step; `flag` is a taint, which counts only in a tainted run, or whether a call delegates.
+// What a step does. One flat record for all kinds, so that it stays in the processor's registers: what a kind does not need is 0. `place`
+// is a register, or a place among cells or on the tape; `next` is the pc after the step; `flag` is the taint of a number from a cell, which
+// counts only in a tainted run, or whether a call delegates. A present cell's address says only what is meant.
 pub struct Action {
     pub kind: Kind,
     pub place: usize,
@@ -51,9 +58,9 @@ pub struct Action {
 }
 
 impl Action {
-    // A number to a register.
+    // A number to a register. It is tainted by the flag, and by the registers that it is made of, which are looked at where it is written.
     pub fn set_register(register: usize, value: u64, taint: bool, next: u64) -> Action
-        ensures { λ r. ⌜ meant r ≡ SetRegister register value taint next ⌝ }
+        ensures { λ r. ⌜ ((l : List ℕ) → Means l r (λ t. SetRegister register value (taint || t) next)) ⌝ }
     {
         Action {
             kind: Kind::SetRegister,
@@ -66,23 +73,38 @@ impl Action {
         }
     }
 
-    // A number to a cell.
-    pub fn store(address: u64, number: u64, taint: bool, next: u64) -> Action
-        ensures { λ r. ⌜ meant r ≡ Store address number taint next ⌝ }
+    // A number to the present cell at a place.
+    pub fn store_at(at: usize, address: u64, number: u64, next: u64) -> Action
+        ensures { λ r. ⌜ ((l : List ℕ) → Found.At at ≡ foundOf l address → Means l r (λ t. Store address number t next)) ⌝ }
     {
         Action {
-            kind: Kind::Store,
-            place: 0,
+            kind: Kind::StoreAt,
+            place: at,
             count: 0,
             address,
             number,
-            flag: taint,
+            flag: false,
+            next,
+        }
+    }
+
+    // A number to a new cell, which is put in at a place.
+    pub fn insert(at: usize, address: u64, number: u64, next: u64) -> Action
+        ensures { λ r. ⌜ ((l : List ℕ) → Found.Absent at ≡ foundOf l address → Means l r (λ t. Store address number t next)) ⌝ }
+    {
+        Action {
+            kind: Kind::Insert,
+            place: at,
+            count: 0,
+            address,
+            number,
+            flag: false,
             next,
         }
     }
 
     pub fn jump(next: u64) -> Action
-        ensures { λ r. ⌜ meant r ≡ Jump next ⌝ }
+        ensures { λ r. ⌜ ((l : List ℕ) → Means l r (λ t. Jump next)) ⌝ }
     {
         Action {
             kind: Kind::Jump,
@@ -97,7 +119,7 @@ impl Action {
 
     // Tape values from a place on to the cells from an address on.
     pub fn load_tape(from: usize, count: usize, address: u64, next: u64) -> Action
-        ensures { λ r. ⌜ meant r ≡ LoadTape from count address next ⌝ }
+        ensures { λ r. ⌜ ((l : List ℕ) → Means l r (λ t. LoadTape from count address next)) ⌝ }
     {
         Action {
             kind: Kind::LoadTape,
@@ -112,7 +134,7 @@ impl Action {
 
     // The numbers of cells from a place on to tape and output.
     pub fn store_tape(at: usize, count: usize, next: u64) -> Action
-        ensures { λ r. ⌜ meant r ≡ StoreTape at count next ⌝ }
+        ensures { λ r. ⌜ ((l : List ℕ) → Means l r (λ t. StoreTape at count next)) ⌝ }
     {
         Action {
             kind: Kind::StoreTape,
@@ -127,7 +149,7 @@ impl Action {
 
     // A call; the four cells from a place on name the callee.
     pub fn call_contract(at: usize, delegate: bool, next: u64) -> Action
-        ensures { λ r. ⌜ meant r ≡ CallContract at delegate next ⌝ }
+        ensures { λ r. ⌜ ((l : List ℕ) → Means l r (λ t. CallContract at delegate next)) ⌝ }
     {
         Action {
             kind: Kind::CallContract,
@@ -141,7 +163,7 @@ impl Action {
     }
 
     pub fn end(next: u64) -> Action
-        ensures { λ r. ⌜ meant r ≡ End next ⌝ }
+        ensures { λ r. ⌜ ((l : List ℕ) → Means l r (λ t. End next)) ⌝ }
     {
         Action {
             kind: Kind::End,
@@ -155,7 +177,7 @@ impl Action {
     }
 
     pub fn refuse(refusal: Refusal) -> Action
-        ensures { λ r. ⌜ meant r ≡ Refuse refusal ⌝ }
+        ensures { λ r. ⌜ ((l : List ℕ) → Means l r (λ t. Refuse refusal)) ⌝ }
     {
         Action {
             kind: Kind::Refuse(refusal),
@@ -170,7 +192,7 @@ impl Action {
 
     // Refusal 18.
     pub fn sink() -> Action
-        ensures { λ r. ⌜ meant r ≡ Sink ⌝ }
+        ensures { λ r. ⌜ ((l : List ℕ) → Means l r (λ t. Sink)) ⌝ }
     {
         Action {
             kind: Kind::Sink,

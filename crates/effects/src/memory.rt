@@ -3,13 +3,17 @@ use crate::Action;
 use goldilocks::FieldElement;
 use hardware::cells;
 use hardware::cells::Cell;
+use hardware::cells::Found;
 use hardware::regions::Region;
 use rules::Refusal;
 ghost use mathlib.Core.Path.{_≡_};
+ghost use mathlib.Core.List.{List};
+ghost use Prim.Native.Nat.{ℕ};
+ghost use lib.ListN.{take};
 ghost use Rattle.rules.specs.Step.{isStorable};
 ghost use Rattle.hardware.specs.Buffers.{cellsOf, cellOf, Rising, Ordered};
-ghost use Rattle.effects.specs.Actions.{meant};
-ghost use Rattle.effects.specs.Operations.{loadsAt, storesAt, testOf, hasCapacity, storesWhere};
+ghost use Rattle.effects.specs.Actions.{Means};
+ghost use Rattle.effects.specs.Operations.{withTaint, loadsAt, storesAt, testOf, hasCapacity, storesWhere};
 
 // A store's tests pass, or one refuses.
 pub enum Tested {
@@ -40,25 +44,21 @@ pub fn test_store(address: u64, number: u64) -> Tested
 }
 
 // One number to one cell, for CALL and MSTORE.
-pub fn store_cell(
-    addresses: &[u64],
-    count: usize,
-    address: u64,
-    number: u64,
-    taint: bool,
-    next: u64,
-) -> Action
+pub fn store_cell(addresses: &[u64], count: usize, address: u64, number: u64, next: u64) -> Action
     requires { ⌜ Rising count (now addresses) ⌝ }
-    ensures { λ r. ⌜ meant r ≡ storesWhere (hasCapacity (now (addresses .entry)) count address 1) address number taint next ⌝ }
+    ensures { λ r. ⌜ Means (take count (now (addresses .entry))) r (λ t. storesWhere (hasCapacity (now (addresses .entry)) count address 1) address number t next) ⌝ }
 {
     match test_store(address, number) {
         Tested::Refused(f) => Action::refuse(f),
-        Tested::Passes => {
-            if cells::has_capacity(addresses, count, address, 1) {
-                return Action::store(address, number, taint, next);
+        Tested::Passes => match cells::find(addresses, count, address) {
+            Found::At(at) => Action::store_at(at, address, number, next),
+            Found::Absent(at) => {
+                if count < addresses.len() {
+                    return Action::insert(at, address, number, next);
+                }
+                Action::refuse(Refusal::NoCapacity)
             }
-            Action::refuse(Refusal::NoCapacity)
-        }
+        },
     }
 }
 
@@ -74,7 +74,7 @@ pub fn load(
     count: usize,
 ) -> Action
     requires { ⌜ Ordered tainted count (now addresses) (now numbers) (now taints) ⌝ }
-    ensures { λ r. ⌜ meant r ≡ loadsAt (cellOf tainted (cellsOf count (now (addresses .entry)) (now (numbers .entry))) (cellsOf count (now (addresses .entry)) (now (taints .entry)))) address register next ⌝ }
+    ensures { λ r. ⌜ ((l : List ℕ) → Means l r (λ t. withTaint t (loadsAt (cellOf tainted (cellsOf count (now (addresses .entry)) (now (numbers .entry))) (cellsOf count (now (addresses .entry)) (now (taints .entry)))) address register next))) ⌝ }
 {
     let FieldElement::Element(x) = address else {
         return Action::refuse(Refusal::NotInField);
@@ -89,16 +89,15 @@ pub fn load(
 pub fn store(
     address: FieldElement,
     number: u64,
-    taint: bool,
     next: u64,
     addresses: &[u64],
     count: usize,
 ) -> Action
     requires { ⌜ Rising count (now addresses) ⌝ }
-    ensures { λ r. ⌜ meant r ≡ storesAt (now (addresses .entry)) count address number taint next ⌝ }
+    ensures { λ r. ⌜ Means (take count (now (addresses .entry))) r (λ t. storesAt (now (addresses .entry)) count address number t next) ⌝ }
 {
     let FieldElement::Element(x) = address else {
         return Action::refuse(Refusal::NotInField);
     };
-    store_cell(addresses, count, x.value, number, taint, next)
+    store_cell(addresses, count, x.value, number, next)
 }

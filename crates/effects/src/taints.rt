@@ -4,62 +4,31 @@ use hardware::cells;
 use operands::taints;
 use program::table::Row;
 ghost use mathlib.Core.Path.{_≡_};
-ghost use mathlib.Core.Bool.{true, _&&_};
-ghost use mathlib.Core.List.{List};
-ghost use Prim.Native.Nat.{ℕ, _+_, _≤_, _<_};
+ghost use mathlib.Core.Bool.{true};
+ghost use Prim.Native.Nat.{_+_, _≤_};
 ghost use lib.ListN.{length};
-ghost use Rattle.rules.specs.Opcodes.{classOf};
-ghost use Rattle.rules.specs.Taint.{registerTaint, operandSink};
-ghost use Rattle.rules.specs.Entry.{lowBits};
-ghost use Rattle.program.specs.Rows.{fields, instructionFrom};
-ghost use Rattle.operands.specs.Meanings.{RegistersBelow};
-ghost use Rattle.effects.specs.Operations.{op1TaintOf, bothTaintOf, partTaint};
+ghost use Rattle.effects.specs.Deciding.{stopsAtOperands, sourcesTainted, Clean};
+ghost use Rattle.effects.specs.Operations.{partTaint};
 
-// Is op1 tainted, in a tainted run?
-pub fn op1_taint(mode: Mode, row: Row) -> bool
-    requires { ⌜ RegistersBelow row ⌝ }
-    ensures { λ r. ⌜ ((ws : List ℕ) → r ≡ op1TaintOf mode (instructionFrom ws row)) ⌝ }
+// Is a register tainted at which a step stops right after its operands, in a tainted run?
+pub fn is_operand_sink(mode: Mode, rows: &[u16], row: Row) -> bool
+    requires { ⌜ row .at + 8 ≤ length (now rows) ⌝ }
+    ensures { λ r. ⌜ r ≡ stopsAtOperands mode (now (rows .entry)) row ⌝ }
 {
     if !mode.tainted {
         return false;
     }
-    taints::operand_taint(mode.register_taints, row.kind1(), row.register1())
+    taints::is_any(mode.register_taints, row.sinks(rows))
 }
 
-// Is op0 or op1?
-pub fn both_taint(mode: Mode, row: Row) -> bool
-    requires { ⌜ RegistersBelow row ⌝ }
-    ensures { λ r. ⌜ ((ws : List ℕ) → r ≡ bothTaintOf mode (instructionFrom ws row)) ⌝ }
+// Is a register tainted that a step's number is made of? No test of the mode here, between a step's decision and its writing: in a plain
+// run no register is tainted.
+pub fn is_source_tainted(mode: Mode, rows: &[u16], row: Row) -> bool
+    requires { ⌜ row .at + 8 ≤ length (now rows) ⌝ }
+    requires { ⌜ Clean mode ⌝ }
+    ensures { λ r. ⌜ r ≡ sourcesTainted mode (now (rows .entry)) row ⌝ }
 {
-    if !mode.tainted {
-        return false;
-    }
-    if taints::operand_taint(mode.register_taints, row.kind0(), row.register0()) {
-        return true;
-    }
-    taints::operand_taint(mode.register_taints, row.kind1(), row.register1())
-}
-
-// The taint of a register, in a tainted run.
-pub fn register_taint(mode: Mode, register: usize) -> bool
-    requires { ⌜ register < 10 ⌝ }
-    ensures { λ r. ⌜ r ≡ mode .tainted && registerTaint (lowBits 10 (mode .«register_taints»)) register ⌝ }
-{
-    if !mode.tainted {
-        return false;
-    }
-    taints::register_taint(mode.register_taints, register)
-}
-
-// Is an operand at which a step stops tainted, in a tainted run?
-pub fn is_operand_sink(mode: Mode, row: Row) -> bool
-    requires { ⌜ RegistersBelow row ⌝ }
-    ensures { λ r. ⌜ ((ws : List ℕ) → r ≡ mode .tainted && operandSink (lowBits 10 (mode .«register_taints»)) (classOf (fields row .opcode)) (instructionFrom ws row)) ⌝ }
-{
-    if !mode.tainted {
-        return false;
-    }
-    taints::is_sink(mode.register_taints, row)
+    taints::is_any(mode.register_taints, row.sources(rows))
 }
 
 // Is one of the n cells from a place on tainted, in a tainted run?

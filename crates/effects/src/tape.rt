@@ -9,7 +9,8 @@ use hardware::regions::Region;
 use rules::Refusal;
 ghost use mathlib.Core.Path.{_≡_};
 ghost use mathlib.Core.Bool.{true};
-ghost use Prim.Native.Nat.{_+_, _≤_, _<_};
+ghost use mathlib.Core.List.{List};
+ghost use Prim.Native.Nat.{ℕ, _+_, _≤_, _<_};
 ghost use lib.Dec.{leb, eqb};
 ghost use lib.ListN.{length, take};
 ghost use Rattle.rules.specs.declared.Refusal.the-variants.{NoCapacity};
@@ -17,7 +18,7 @@ ghost use Rattle.rules.specs.Numbers.{wordEnd};
 ghost use Rattle.rules.specs.Step.{spanFits};
 ghost use Rattle.rules.specs.Entry.{every};
 ghost use Rattle.hardware.specs.Buffers.{Rising};
-ghost use Rattle.effects.specs.Actions.{meant, StoreTape, CallContract};
+ghost use Rattle.effects.specs.Actions.{StoreTape, CallContract, Means};
 ghost use Rattle.effects.specs.Effects.{check, sinkWhere, tapeFrom, tapeCount};
 ghost use Rattle.effects.specs.Operations.{testsOf, hasCapacity, loadsPart, onTapeOf, loadsTape, spanAmong, onSpan, partTaint, more};
 
@@ -84,7 +85,7 @@ pub fn store_tape(
     requires { ⌜ (tainted ≡ true → length (now taints) ≡ length (now addresses)) ⌝ }
     requires { ⌜ used ≤ length (now tape) ⌝ }
     requires { ⌜ shown ≤ length (now output) ⌝ }
-    ensures { λ r. ⌜ meant r ≡ onSpan (spanAmong (take count (now (addresses .entry))) start n) (λ at. sinkWhere (partTaint tainted (now (taints .entry)) at n) (check (more used n (now (tape .entry))) NoCapacity (check (more shown n (now (output .entry))) NoCapacity (StoreTape at n next)))) ⌝ }
+    ensures { λ r. ⌜ ((l : List ℕ) → Means l r (λ t. onSpan (spanAmong (take count (now (addresses .entry))) start n) (λ at. sinkWhere (partTaint tainted (now (taints .entry)) at n) (check (more used n (now (tape .entry))) NoCapacity (check (more shown n (now (output .entry))) NoCapacity (StoreTape at n next)))))) ⌝ }
 {
     match find_cells(addresses, count, start, n) {
         SpanFound::Refused(f) => Action::refuse(f),
@@ -119,7 +120,7 @@ pub fn call_contract(
     requires { ⌜ Rising count (now addresses) ⌝ }
     requires { ⌜ (tainted ≡ true → length (now taints) ≡ length (now addresses)) ⌝ }
     requires { ⌜ used ≤ length (now tape) ⌝ }
-    ensures { λ r. ⌜ meant r ≡ onSpan (spanAmong (take count (now (addresses .entry))) start 4) (λ at. sinkWhere (partTaint tainted (now (taints .entry)) at 4) (check (more used 12 (now (tape .entry))) NoCapacity (CallContract at (eqb b 1) next))) ⌝ }
+    ensures { λ r. ⌜ ((l : List ℕ) → Means l r (λ t. onSpan (spanAmong (take count (now (addresses .entry))) start 4) (λ at. sinkWhere (partTaint tainted (now (taints .entry)) at 4) (check (more used 12 (now (tape .entry))) NoCapacity (CallContract at (eqb b 1) next))))) ⌝ }
 {
     match find_cells(addresses, count, start, 4) {
         SpanFound::Refused(f) => Action::refuse(f),
@@ -221,7 +222,7 @@ fn load_part(
 ) -> Action
     requires { ⌜ Rising count (now addresses) ⌝ }
     requires { ⌜ from + n ≤ length (now tape) ⌝ }
-    ensures { λ r. ⌜ meant r ≡ loadsPart (now (tape .entry)) from n address (hasCapacity (now (addresses .entry)) count address n) next ⌝ }
+    ensures { λ r. ⌜ ((l : List ℕ) → Means l r (λ t. loadsPart (now (tape .entry)) from n address (hasCapacity (now (addresses .entry)) count address n) next)) ⌝ }
 {
     if reaches_word_end(address, n as u64) {
         return Action::refuse(Refusal::StoreFault);
@@ -251,7 +252,7 @@ pub fn load_tape(
 ) -> Action
     requires { ⌜ Rising count (now addresses) ⌝ }
     requires { ⌜ used ≤ length (now tape) ⌝ }
-    ensures { λ r. ⌜ meant r ≡ loadsTape a b (now (tape .entry)) used address (hasCapacity (now (addresses .entry)) count address (tapeCount a b)) next ⌝ }
+    ensures { λ r. ⌜ ((l : List ℕ) → Means l r (λ t. loadsTape a b (now (tape .entry)) used address (hasCapacity (now (addresses .entry)) count address (tapeCount a b)) next)) ⌝ }
 {
     if !is_on_tape(a, b, used) {
         return Action::refuse(Refusal::TapeFault);

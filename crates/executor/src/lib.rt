@@ -14,6 +14,8 @@ use rules::Machine;
 use rules::Refusal;
 ghost use mathlib.Core.Path.{_≡_};
 ghost use mathlib.Core.List.{List};
+ghost use Prim.Native.Nat.{_+_, _≤_};
+ghost use lib.ListN.{length};
 ghost use Rattle.rules.specs.declared.Answer.the-variants.{Refused};
 ghost use Rattle.rules.specs.declared.Instruction.{Instruction};
 ghost use Rattle.rules.specs.Results.{Result, pass};
@@ -48,7 +50,8 @@ fn refuse(machine: Machine, refusal: Refusal) -> Called
 // Runs a loaded program, if the state is fit.
 fn enter(
     words: &[u64],
-    rows: &[u64],
+    rows: &[u16],
+    values: &mut [u64],
     budget: u64,
     machine: Machine,
     addresses: &mut [u64],
@@ -57,6 +60,7 @@ fn enter(
     output: &mut [u64],
 ) -> Called
     requires { ⌜ Loaded (now words) (now rows) ⌝ }
+    requires { ⌜ 14 + length (now words) ≤ length (now values) ⌝ }
     ensures { λ r. ⌜ called r (now (addresses .exit)) (now (numbers .exit)) (now (tape .exit)) (now (output .exit)) ≡ plainCall (pass (programOf (now (words .entry)))) budget (snapshot machine (now (addresses .entry)) (now (numbers .entry)) (now (tape .entry)) (now (output .entry))) ⌝ }
 {
     if entry::accepts(machine, addresses, numbers, tape, output) {
@@ -70,6 +74,7 @@ fn enter(
             machine,
             words,
             rows,
+            values,
             budget,
             addresses,
             numbers,
@@ -91,7 +96,8 @@ fn enter(
 // Loads a program of bare words into empty rows, and runs it.
 fn load_and_enter(
     words: &[u64],
-    rows: &mut [u64],
+    rows: &mut [u16],
+    values: &mut [u64],
     budget: u64,
     machine: Machine,
     addresses: &mut [u64],
@@ -100,12 +106,14 @@ fn load_and_enter(
     output: &mut [u64],
 ) -> Called
     requires { ⌜ EmptyRows (now words) (now rows) ⌝ }
+    requires { ⌜ (length (now words) ≤ 2048 → 14 + length (now words) ≤ length (now values)) ⌝ }
     ensures { λ r. ⌜ called r (now (addresses .exit)) (now (numbers .exit)) (now (tape .exit)) (now (output .exit)) ≡ plainWords (now (words .entry)) budget (snapshot machine (now (addresses .entry)) (now (numbers .entry)) (now (tape .entry)) (now (output .entry))) ⌝ }
 {
     match table::load_words(words, rows) {
         Checked::Frames(_) => enter(
             words,
             rows,
+            values,
             budget,
             machine,
             addresses,
@@ -129,11 +137,13 @@ pub fn run_words(
 ) -> Called
     ensures { λ r. ⌜ called r (now (addresses .exit)) (now (numbers .exit)) (now (tape .exit)) (now (output .exit)) ≡ plainWords (now (words .entry)) budget (snapshot machine (now (addresses .entry)) (now (numbers .entry)) (now (tape .entry)) (now (output .entry))) ⌝ }
 {
-    if words.len() <= table::SHORT_WORDS {
-        let mut rows = [0u64; table::SHORT_ROWS];
+    if words.len() <= table::TINY_WORDS {
+        let mut rows = [0u16; table::TINY_ROWS];
+        let mut values = [0u64; table::TINY_VALUES];
         return load_and_enter(
             words,
             &mut rows,
+            &mut values,
             budget,
             machine,
             addresses,
@@ -142,10 +152,27 @@ pub fn run_words(
             output,
         );
     }
-    let mut rows = [0u64; table::ROWS];
+    if words.len() <= table::SHORT_WORDS {
+        let mut rows = [0u16; table::SHORT_ROWS];
+        let mut values = [0u64; table::SHORT_VALUES];
+        return load_and_enter(
+            words,
+            &mut rows,
+            &mut values,
+            budget,
+            machine,
+            addresses,
+            numbers,
+            tape,
+            output,
+        );
+    }
+    let mut rows = [0u16; table::ROWS];
+    let mut values = [0u64; table::VALUES];
     load_and_enter(
         words,
         &mut rows,
+        &mut values,
         budget,
         machine,
         addresses,

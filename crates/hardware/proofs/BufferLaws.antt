@@ -2,27 +2,28 @@
 use Prim.Native.Nat.{ℕ, zero, suc, _+_, _-_, _≤_, _<_}
 use mathlib.Core.Path.{_≡_, refl, sym, ap, subst, _∙_}
 use mathlib.Core.Bool.{Bool, true, false}
-use mathlib.Core.List.{List}
+use mathlib.Core.List.{List, [], _∷_, _++_}
+use native.Mathlib.Numerals.{add-one}
 use native.Mathlib.Omega.{arith}
-use lib.Dec.{ltb, leb, eqb}
-use lib.ListN.{length, getD, set, take}
-use lib.Seq.{length-take-le, getD-take}
-use borrow.Author.Tests.{ltb-true, ltb-false, leb-true, leb-false, le-leb, lt-leb}
+use lib.Dec.{leb, eqb}
+use lib.ListN.{length, getD, set, take, drop}
+use lib.Seq.{length-take-le, getD-take, split-at, set-split}
+use borrow.Author.Tests.{leb-true, leb-false, le-leb, lt-leb}
 use Rattle.rules.specs.Numbers.{choose, bit}
 use Rattle.rules.specs.Memory.{absent, present}
-use Rattle.rules.specs.Cells.{get, put, count, addresses, contents}
+use Rattle.rules.specs.Cells.{get, put, addresses, contents}
 use Rattle.rules.specs.Step.{overlay}
 use Rattle.rules.specs.Entry.{risingFrom}
 use Rattle.rules.proofs.CellLaws.{length-addresses, addresses-zipped, contents-zipped}
-use Rattle.hardware.specs.declared.cells.Found.{Found}
 use Rattle.hardware.specs.declared.cells.Found.the-variants as Found
 use Rattle.hardware.specs.declared.cells.Cell.the-variants as Cell
 use Rattle.hardware.specs.declared.cells.Span.the-variants as Span
-use Rattle.hardware.specs.Buffers.{rank, has, foundOf, hasAll, spanOf, missing, cellsOf, cellOf, Rising, Ordered, Holding}
-use Rattle.hardware.specs.Places.{insertAt, keepOf, growOf, Within}
-use Rattle.hardware.proofs.RankLaws.{rank-length, rank-mono, has-at, has-none, last-there, there-last, missing-ranks, missing-most}
+use Rattle.hardware.specs.Buffers.{rank, has, foundOf, hasAll, spanOf, missing, cellsOf, cellOf, putMany, Rising, Ordered, Holding}
+use Rattle.hardware.specs.Places.{insertAt, consecutive, spliced}
+use Rattle.hardware.proofs.RankLaws.{rank-length, rank-mono, rank-next, has-at, has-rank, has-none, last-there, there-last, missing-ranks, missing-most}
 use Rattle.hardware.proofs.SpanLaws.{absent-get, present-get}
-use Rattle.hardware.proofs.PlaceLaws.{found-at, found-absent, found-below, put-addresses, put-contents, found-fits}
+use Rattle.hardware.proofs.SpliceLaws.{spliced-many}
+use Rattle.hardware.proofs.PlaceLaws.{insert-spliced, found-at, found-absent, found-below}
 use Rattle.hardware.proofs.WriteLaws.{overlay-set, overlay-taken, length-put-in}
 
 -- Searches
@@ -136,19 +137,6 @@ module _ (n : ℕ) (xs : List ℕ) (o : Rising n xs) (a m : ℕ) where
             let w : n ≤ length xs = o .within in
             lt-leb (m - (high - low)) (length xs - n) (omega arith)
 
--- of one cell: one that is found needs none
-pub capacity-for-found : (n : ℕ) (xs : List ℕ) → n ≤ length xs → (a i : ℕ) → Found.At i ≡ foundOf (take n xs) a
-    → leb (n + missing (take n xs) a 1) (length xs) ≡ true
-capacity-for-found n xs w a i e = rw (found-at (take n xs) a i (sym e) .0) (le-leb (n + 0) (length xs) (omega arith))
-
-pub capacity-for-absent : (n : ℕ) (xs : List ℕ) (a i : ℕ) → Found.Absent i ≡ foundOf (take n xs) a
-    → leb (n + missing (take n xs) a 1) (length xs) ≡ ltb n (length xs)
-capacity-for-absent n xs a i e = rw (found-absent (take n xs) a i (sym e) .0) (go (ltb n (length xs)) refl)
-  where
-    go : (t : Bool) → ltb n (length xs) ≡ t → leb (n + 1) (length xs) ≡ t
-    go true h = let k : n < length xs = ltb-true n (length xs) h in le-leb (n + 1) (length xs) (omega arith)
-    go false h = let k : length xs ≤ n = ltb-false n (length xs) h in lt-leb (n + 1) (length xs) (omega arith)
-
 -- A buffer of contents beside the addresses
 
 module _ (n : ℕ) (xs bs : List ℕ) (o : Rising n xs) (l : length bs ≡ length xs) where
@@ -177,28 +165,45 @@ module _ (n : ℕ) (xs bs : List ℕ) (o : Rising n xs) (l : length bs ≡ lengt
   pub get-absent : (a i : ℕ) → foundOf (take n xs) a ≡ Found.Absent i → get (cellsOf n xs bs) a ≡ absent
   get-absent a i f = absent-get (cellsOf n xs bs) a (ap (λ (l : List ℕ). has l a) addresses-of ∙ found-absent (take n xs) a i f .0)
 
-  -- one that is stored
+  -- what is stored is one splice
 
-  pub addresses-stored : (a v : ℕ) → addresses (put (cellsOf n xs bs) a v) ≡ growOf (foundOf (take n xs) a) a (take n xs)
-  addresses-stored a v =
-      put-addresses 0 (cellsOf n xs bs) a v rises-of ∙ ap (λ (l : List ℕ). growOf (foundOf l a) a l) addresses-of
+  pub splice : (a k : ℕ) (vs : List ℕ) → k ≡ length vs → (low high : ℕ) → low ≡ rank (take n xs) a → high ≡ rank (take n xs) (a + k)
+      → (addresses (putMany (cellsOf n xs bs) a vs) ≡ spliced low high (consecutive a k) (take n xs))
+      × (contents (putMany (cellsOf n xs bs) a vs) ≡ spliced low high vs (take n bs))
+  splice a k vs q low high e f =
+      let c : addresses (cellsOf n xs bs) ≡ take n xs = addresses-of in
+      let g : rank (addresses (cellsOf n xs bs)) a ≡ low = ap (λ (l : List ℕ). rank l a) c ∙ sym e in
+      let h : rank (addresses (cellsOf n xs bs)) (a + k) ≡ high = ap (λ (l : List ℕ). rank l (a + k)) c ∙ sym f in
+      let m = rw (← q, g, h) at (spliced-many 0 (cellsOf n xs bs) a vs rises-of) in
+      (m .0 ∙ ap (spliced low high (consecutive a k)) c, m .1 ∙ ap (spliced low high vs) contents-of)
 
-  pub contents-stored : (a v : ℕ) → contents (put (cellsOf n xs bs) a v) ≡ keepOf (foundOf (take n xs) a) v (take n bs)
-  contents-stored a v =
-      put-contents 0 (cellsOf n xs bs) a v rises-of
-      ∙ ap (λ (l : List ℕ). keepOf (foundOf l a) v (contents (cellsOf n xs bs))) addresses-of
-      ∙ ap (λ (l : List ℕ). keepOf (foundOf (take n xs) a) v l) contents-of
+  module _ (a i v : ℕ) where
+    -- in the place of itself
+    stored-found : Found.At i ≡ foundOf (take n xs) a
+        → (addresses (put (cellsOf n xs bs) a v) ≡ take n xs) × (contents (put (cellsOf n xs bs) a v) ≡ set (take n bs) i v)
+    stored-found e =
+        let q = found-at (take n xs) a i (sym e) in
+        let r : i ≡ rank (take n xs) a = sym (q .1) in
+        let t : rank (take n xs) (suc a) ≡ suc (rank (take n xs) a) = rw (q .0) at (rank-next 0 (take n xs) a (o .rises)) in
+        let s = splice a 1 (v ∷ []) refl i (suc i) r (rw (add-one a) (omega arith)) in
+        let h : i < n = found-within n xs o a i e in
+        let g : getD (take n xs) i 0 ≡ a = ap (λ (i : ℕ). getD (take n xs) i 0) r ∙ has-rank 0 (take n xs) a (o .rises) (q .0) .1 in
+        let u : length (take n xs) ≡ n = length-take-le n xs (o .within) in
+        let w : length (take n xs) ≡ length (take n bs) = levels in (
+          s .0
+              ∙ sym (split-at (take n xs) i 0 (omega arith) ∙ ap (λ (x : ℕ). take i (take n xs) ++ x ∷ drop (suc i) (take n xs)) g),
+          s .1 ∙ sym (set-split (take n bs) i v (omega arith)),
+        )
 
-  pub store-within : (a v : ℕ) → count (put (cellsOf n xs bs) a v) ≤ length xs → (f : Found) → f ≡ foundOf (take n xs) a → (k : ℕ) → k ≡ length xs
-      → Within f n k
-  store-within a v h f e k q =
-      let u : length (take n xs) ≡ n = length-take-le n xs (o .within) in
-      let g : length (growOf (foundOf (take n xs) a) a (take n xs)) ≡ count (put (cellsOf n xs bs) a v) =
-      sym (ap length (addresses-stored a v)) ∙ length-addresses (put (cellsOf n xs bs) a v) in
-      let w : n ≤ length xs = o .within in
-      let i : Within (foundOf (take n xs) a) n k =
-      subst (λ (m : ℕ). Within (foundOf (take n xs) a) m k) u (found-fits (take n xs) a k (o .rises) (omega arith) (omega arith)) in
-      subst (λ (f : Found). Within f n k) (sym e) i
+    -- in the place of none
+    stored-absent : Found.Absent i ≡ foundOf (take n xs) a
+        → (addresses (put (cellsOf n xs bs) a v) ≡ insertAt i a (take n xs)) × (contents (put (cellsOf n xs bs) a v) ≡ insertAt i v (take n bs))
+    stored-absent e =
+        let q = found-absent (take n xs) a i (sym e) in
+        let r : i ≡ rank (take n xs) a = sym (q .1) in
+        let t : rank (take n xs) (suc a) ≡ rank (take n xs) a = rw (q .0) at (rank-next 0 (take n xs) a (o .rises)) in
+        let s = splice a 1 (v ∷ []) refl i i r (rw (add-one a) (omega arith)) in
+        (s .0 ∙ sym (insert-spliced i a (take n xs)), s .1 ∙ sym (insert-spliced i v (take n bs)))
 
 -- What is read
 
@@ -217,45 +222,30 @@ module _ (tainted : Bool) (n : ℕ) (xs ns ts : List ℕ) (o : Ordered tainted n
 
 -- What is stored
 
-module _ (tainted : Bool) (n : ℕ) (xs ns ts : List ℕ) (o : Ordered tainted n xs ns ts) (a v : ℕ) (t : Bool) (f : Found) (e : f ≡ foundOf (take n xs) a) where
-  taints-stored : (s : Bool) → tainted ≡ s
-      → choose s (overlay (keepOf f (bit t) (take n ts)) ts) ts ≡ choose s (overlay (contents (put (cellsOf n xs ts) a (bit t))) ts) ts
-  taints-stored true q =
-      ap (λ (l : List ℕ). overlay l ts)
-      (ap (λ (f : Found). keepOf f (bit t) (take n ts)) e ∙ sym (contents-stored n xs ts (o .addresses) (o .taintLevel q) a (bit t)))
-  taints-stored false q = refl
-
-  pub store-holds : (r : ℕ) (xs′ ns′ ts′ : List ℕ) → (r ≡ length (growOf f a (take n xs))) × (xs′ ≡ overlay (growOf f a (take n xs)) xs)
-      → ns′ ≡ overlay (keepOf f v (take n ns)) ns → ts′ ≡ choose tainted (overlay (keepOf f (bit t) (take n ts)) ts) ts
-      → Holding tainted (put (cellsOf n xs ns) a v) (put (cellsOf n xs ts) a (bit t)) r xs ns ts xs′ ns′ ts′
-  store-holds r xs′ ns′ ts′ g h k =
-      let q : growOf f a (take n xs) ≡ addresses (put (cellsOf n xs ns) a v) =
-      ap (λ (f : Found). growOf f a (take n xs)) e ∙ sym (addresses-stored n xs ns (o .addresses) (o .level) a v) in
-      record {
-        used = g .0 ∙ ap length q ∙ length-addresses (put (cellsOf n xs ns) a v);
-        addresses = g .1 ∙ ap (λ (l : List ℕ). overlay l xs) q;
-        numbers = h
-            ∙ ap (λ (l : List ℕ). overlay l ns)
-            (ap (λ (f : Found). keepOf f v (take n ns)) e ∙ sym (contents-stored n xs ns (o .addresses) (o .level) a v));
-        taints = k ∙ taints-stored tainted refl;
-      }
-
 -- a cell that is found is written at its place
 module _ (tainted : Bool) (n : ℕ) (xs ns ts : List ℕ) (o : Ordered tainted n xs ns ts) (a v : ℕ) (t : Bool) (i : ℕ)
     (e : Found.At i ≡ foundOf (take n xs) a) where
-  set-used : (bs : List ℕ) (w : ℕ) → length bs ≡ length xs → set bs i w ≡ overlay (set (take n bs) i w) bs
-  set-used bs w l = let k : n ≤ length xs = o .addresses .within in overlay-set n bs i w (found-within n xs (o .addresses) a i e) (omega arith)
+  contents-written : (bs : List ℕ) (w : ℕ) → length bs ≡ length xs → set bs i w ≡ overlay (contents (put (cellsOf n xs bs) a w)) bs
+  contents-written bs w l =
+      let k : n ≤ length xs = o .addresses .within in
+      overlay-set n bs i w (found-within n xs (o .addresses) a i e) (omega arith)
+      ∙ ap (λ (z : List ℕ). overlay z bs) (sym (stored-found n xs bs (o .addresses) l a i w e .1))
 
-  taints-set : (s : Bool) → tainted ≡ s → choose s (set ts i (bit t)) ts ≡ choose s (overlay (set (take n ts) i (bit t)) ts) ts
-  taints-set true q = set-used ts (bit t) (o .taintLevel q)
-  taints-set false q = refl
+  taints-written : (s : Bool) → tainted ≡ s → choose s (set ts i (bit t)) ts ≡ choose s (overlay (contents (put (cellsOf n xs ts) a (bit t))) ts) ts
+  taints-written true q = contents-written ts (bit t) (o .taintLevel q)
+  taints-written false q = refl
 
   pub written-holds : Holding tainted (put (cellsOf n xs ns) a v) (put (cellsOf n xs ts) a (bit t)) n
       xs ns ts xs (set ns i v) (choose tainted (set ts i (bit t)) ts)
   written-holds =
       let w : n ≤ length xs = o .addresses .within in
-      store-holds tainted n xs ns ts o a v t (Found.At i) e n xs (set ns i v) _
-      (sym (length-take-le n xs w), sym (overlay-taken n xs w)) (set-used ns v (o .level)) (taints-set tainted refl)
+      let c : addresses (put (cellsOf n xs ns) a v) ≡ take n xs = stored-found n xs ns (o .addresses) (o .level) a i v e .0 in
+      record {
+        used = sym (length-take-le n xs w) ∙ ap length (sym c) ∙ length-addresses (put (cellsOf n xs ns) a v);
+        addresses = sym (ap (λ (z : List ℕ). overlay z xs) c ∙ overlay-taken n xs w);
+        numbers = contents-written ns v (o .level);
+        taints = taints-written tainted refl;
+      }
 
 -- a new one is put in where it would go
 pub inserted-holds : (tainted : Bool) (n : ℕ) (xs ns ts : List ℕ) → Ordered tainted n xs ns ts → n < length xs → (a v : ℕ) (t : Bool) (i : ℕ)
@@ -263,5 +253,15 @@ pub inserted-holds : (tainted : Bool) (n : ℕ) (xs ns ts : List ℕ) → Ordere
     → ns′ ≡ overlay (insertAt i v (take n ns)) ns → (s : Bool) → tainted ≡ s → ts′ ≡ choose s (overlay (insertAt i (bit t) (take n ts)) ts) ts
     → Holding tainted (put (cellsOf n xs ns) a v) (put (cellsOf n xs ts) a (bit t)) (n + 1) xs ns ts xs′ ns′ ts′
 inserted-holds tainted n xs ns ts o h a v t i e xs′ ns′ ts′ f g s q k =
-    store-holds tainted n xs ns ts o a v t (Found.Absent i) e (n + 1) xs′ ns′ ts′ (length-put-in n i a xs h, f) g
-    (k ∙ ap (λ (s : Bool). choose s (overlay (insertAt i (bit t) (take n ts)) ts) ts) (sym q))
+    let c = stored-absent n xs ns (o .addresses) (o .level) a i v e in
+    record {
+      used = length-put-in n i a xs h ∙ ap length (sym (c .0)) ∙ length-addresses (put (cellsOf n xs ns) a v);
+      addresses = f ∙ ap (λ (z : List ℕ). overlay z xs) (sym (c .0));
+      numbers = g ∙ ap (λ (z : List ℕ). overlay z ns) (sym (c .1));
+      taints = k ∙ go s q;
+    }
+  where
+    go : (s : Bool) → tainted ≡ s
+        → choose s (overlay (insertAt i (bit t) (take n ts)) ts) ts ≡ choose tainted (overlay (contents (put (cellsOf n xs ts) a (bit t))) ts) ts
+    go true q = rw q (ap (λ (z : List ℕ). overlay z ts) (sym (stored-absent n xs ts (o .addresses) (o .taintLevel q) a i (bit t) e .1)))
+    go false q = rw q

@@ -3,8 +3,9 @@ pub mod RankLaws
 pub mod QuarterLaws
 pub mod SpanLaws
 pub mod StoreLaws
+pub mod SpliceLaws
 pub mod PlaceLaws
 pub mod WriteLaws
 pub mod BufferLaws
 pub mod OverwriteLaws
-pub mod SpliceLaws
+pub mod RoomLaws

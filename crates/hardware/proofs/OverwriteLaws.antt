@@ -4,21 +4,16 @@ use mathlib.Core.Path.{_≡_, refl, sym, ap, _∙_}
 use mathlib.Core.Bool.{Bool, true, false}
 use mathlib.Core.List.{List, [], _∷_, _++_}
 use native.Mathlib.Omega.{arith}
-use lib.ListN.{length, getD, set, take, drop, length-drop, take-append-drop}
+use lib.ListN.{length, getD, take, drop, length-drop, take-append-drop}
 use lib.Seq.{length-take-le}
 use Rattle.rules.specs.Numbers.{choose, heapEnd, wordEnd}
 use Rattle.rules.specs.Cells.{Cells, put, addresses, contents, cells}
 use Rattle.rules.specs.Step.{overlay}
 use Rattle.rules.specs.Taint.{cleanMany}
-use Rattle.rules.specs.Entry.{risingFrom}
-use Rattle.rules.proofs.BoolLaws.{and-left, and-right}
-use Rattle.rules.proofs.CellLaws.{length-addresses, length-contents}
-use Rattle.hardware.specs.declared.cells.Found.{Found}
-use Rattle.hardware.specs.declared.cells.Found.the-variants as Found
-use Rattle.hardware.specs.Buffers.{rank, has, hasAll, foundOf, cellsOf, putMany, Rising, Ordered, Holding}
-use Rattle.hardware.specs.Places.{keepOf, growOf, overwritten, zeros}
-use Rattle.hardware.proofs.RankLaws.{has-rank, rank-next}
-use Rattle.hardware.proofs.PlaceLaws.{put-addresses, put-contents}
+use Rattle.rules.proofs.CellLaws.{length-addresses}
+use Rattle.hardware.specs.Buffers.{rank, hasAll, cellsOf, putMany, Rising, Ordered, Holding}
+use Rattle.hardware.specs.Places.{overwritten, zeros}
+use Rattle.hardware.proofs.SpliceLaws.{present-many}
 use Rattle.hardware.proofs.WriteLaws.{overlay-taken}
 use Rattle.hardware.proofs.BufferLaws.{addresses-of, contents-of, rises-of, span-ends}
 
@@ -47,12 +42,6 @@ overlay-all (u ∷ us) [] e = absurd (omega arith)
 overlay-all (u ∷ us) (x ∷ xs) e = ap (λ (l : List ℕ). u ∷ l) (overlay-all us xs (omega arith))
 
 -- Overwriting
-
--- one value, and then the others behind it
-overwritten-next : (i v : ℕ) (vs l : List ℕ) → i < length l → overwritten (suc i) vs (set l i v) ≡ overwritten i (v ∷ vs) l
-overwritten-next i v vs [] h = absurd (omega arith)
-overwritten-next zero v vs (x ∷ l) h = refl
-overwritten-next (suc i) v vs (x ∷ l) h = ap (λ (l : List ℕ). x ∷ l) (overwritten-next i v vs l (omega arith))
 
 pub overwritten-none : (i : ℕ) (l : List ℕ) → overwritten i [] l ≡ l
 overwritten-none i l = take-append-drop i l
@@ -101,37 +90,7 @@ overwritten-used n i vs xs h k =
     ∙ overwritten-front i vs (take n xs) (drop n xs) (omega arith)
     ∙ ap (λ (k : ℕ). overwritten i vs (take n xs) ++ drop k xs) (sym m)
 
--- A store to cells that are present
-
-module _ (c : Cells ℕ) (a v : ℕ) (r : risingFrom 0 (addresses c) ≡ true) (h : has (addresses c) a ≡ true) where
-  found-there : foundOf (addresses c) a ≡ Found.At (rank (addresses c) a)
-  found-there = ap (λ (t : Bool). choose t (Found.At (rank (addresses c) a)) (Found.Absent (rank (addresses c) a))) h
-
-  addresses-kept : addresses (put c a v) ≡ addresses c
-  addresses-kept = put-addresses 0 c a v r ∙ ap (λ (f : Found). growOf f a (addresses c)) found-there
-
-  contents-set : contents (put c a v) ≡ set (contents c) (rank (addresses c) a) v
-  contents-set = put-contents 0 c a v r ∙ ap (λ (f : Found). keepOf f v (contents c)) found-there
-
-pub present-many : (c : Cells ℕ) (a : ℕ) (vs : List ℕ) → risingFrom 0 (addresses c) ≡ true → hasAll (addresses c) a (length vs) ≡ true
-    → (addresses (putMany c a vs) ≡ addresses c) × (contents (putMany c a vs) ≡ overwritten (rank (addresses c) a) vs (contents c))
-present-many c a [] r h = (refl, sym (overwritten-none (rank (addresses c) a) (contents c)))
-present-many c a (v ∷ vs) r h =
-    let t : has (addresses c) a ≡ true = and-left (has (addresses c) a) _ h in
-    let e : addresses (put c a v) ≡ addresses c = addresses-kept c a v r t in
-    let q : rank (addresses c) (suc a) ≡ suc (rank (addresses c) a) = rw t at (rank-next 0 (addresses c) a r) in
-    let k : rank (addresses c) a < length (addresses c) = has-rank 0 (addresses c) a r t .0 in
-    let l : length (addresses c) ≡ length (contents c) = length-addresses c ∙ sym (length-contents c) in
-    let i =
-    present-many (put c a v) (suc a) vs (ap (risingFrom 0) e ∙ r)
-    (ap (λ (l : List ℕ). hasAll l (suc a) (length vs)) e ∙ and-right (has (addresses c) a) _ h) in (
-      i .0 ∙ e,
-      i .1
-          ∙ ap (λ (l : List ℕ). overwritten (rank l (suc a)) vs (contents (put c a v))) e
-          ∙ ap (λ (k : ℕ). overwritten k vs (contents (put c a v))) q
-          ∙ ap (overwritten (suc (rank (addresses c) a)) vs) (contents-set c a v r t)
-          ∙ overwritten-next (rank (addresses c) a) v vs (contents c) (omega arith),
-    )
+-- A store of many
 
 -- a span of cells does not reach the end of the words
 pub within-words : (a n : ℕ) → a < wordEnd → (0 < n → a + n ≤ heapEnd) → a + n < wordEnd

@@ -105,7 +105,7 @@ has-at [] a i h e = absurd (omega arith)
 has-at (b ∷ l) a zero h e = rw (eq-eqb b a e)
 has-at (b ∷ l) a (suc i) h e = or-second (eqb b a) (has-at l a i (omega arith) e)
 
-pub has-below : (n : ℕ) (l : List ℕ) (a : ℕ) → risingFrom n l ≡ true → a < n → has l a ≡ false
+has-below : (n : ℕ) (l : List ℕ) (a : ℕ) → risingFrom n l ≡ true → a < n → has l a ≡ false
 has-below n [] a r h = refl
 has-below n (b ∷ l) a r h =
     let q : n ≤ b = rising-first n b l r in

@@ -1,27 +1,19 @@
--- A store of many: it is one splice, of what lies below its first address, its values, and what lies behind its last. And what it takes in
--- the buffers: to move up what lies behind, and to write into the room that is left.
-use Prim.Native.Nat.{ℕ, zero, suc, _+_, _-_, _≤_, _<_}
+-- Values stored from an address on: they are one splice, of what lies below the address, the values, and what lies behind the last of them.
+use Prim.Native.Nat.{ℕ, zero, suc, _+_, _≤_, _<_}
 use mathlib.Core.Path.{_≡_, refl, sym, ap, _∙_}
 use mathlib.Core.Bool.{Bool, true, false}
 use mathlib.Core.List.{List, [], _∷_, _++_}
 use native.Mathlib.Omega.{arith}
 use lib.Dec.{ltb, leb, eqb}
-use lib.ListN.{length, getD, set, take, drop, length-drop}
-use lib.Seq.{length-take-le, drop-length, drop-cons, getD-take, take-take}
+use lib.ListN.{length, getD, take, drop, take-append-drop}
+use lib.Seq.{drop-cons, drop-drop}
 use borrow.Author.Tests.{lt-ltb, le-ltb, ltb-true, ltb-false, le-leb, ne-eqb, eqb-true, eqb-false}
-use Rattle.rules.specs.Numbers.{choose}
-use Rattle.rules.specs.Cells.{Cells, none, cell, put, count, addresses, contents, cells}
-use Rattle.rules.specs.Step.{overlay}
-use Rattle.rules.specs.Taint.{cleanMany}
+use Rattle.rules.specs.Cells.{Cells, none, cell, put, addresses, contents}
 use Rattle.rules.specs.Entry.{risingFrom}
-use Rattle.rules.proofs.BoolLaws.{and-right, and-true}
-use Rattle.rules.proofs.CellLaws.{length-addresses}
-use Rattle.hardware.specs.Buffers.{rank, missing, cellsOf, putMany, Rising, Ordered, Holding}
-use Rattle.hardware.specs.Places.{overwritten, zeros, consecutive, spliced, moved}
-use Rattle.hardware.proofs.RankLaws.{rising-first, rising-rest, rank-below}
-use Rattle.hardware.proofs.StoreLaws.{count-putMany}
-use Rattle.hardware.proofs.BufferLaws.{addresses-of, contents-of, rises-of, rank-used, ranks-rise, new-cells}
-use Rattle.hardware.proofs.OverwriteLaws.{length-zeros, overwritten-none, part-length, part-back, clean-zeros}
+use Rattle.rules.proofs.BoolLaws.{and-left, and-right, and-true}
+use Rattle.hardware.specs.Buffers.{rank, has, hasAll, putMany}
+use Rattle.hardware.specs.Places.{overwritten, consecutive, spliced}
+use Rattle.hardware.proofs.RankLaws.{rising-first, rising-rest, rank-below, rank-next, has-rank}
 
 -- Consecutive addresses
 
@@ -35,70 +27,6 @@ getD-consecutive a (suc n) zero h = omega arith
 getD-consecutive a (suc n) (suc i) h =
     let k : getD (consecutive (suc a) n) i 0 ≡ suc a + i = getD-consecutive (suc a) n i (omega arith) in
     omega arith
-
--- Moving up, from the end on
-
--- what stands before the moved ones stays
-getD-before : (i j : ℕ) (vs l : List ℕ) → j < i → j < length l → getD (overwritten i vs l) j 0 ≡ getD l j 0
-getD-before zero j vs l h k = absurd (omega arith)
-getD-before (suc i) j vs [] h k = absurd (omega arith)
-getD-before (suc i) zero vs (x ∷ l) h k = refl
-getD-before (suc i) (suc j) vs (x ∷ l) h k = getD-before i j vs l (omega arith) (omega arith)
-
-set-before : (i v : ℕ) (vs l : List ℕ) → i < length l → set (overwritten (suc i) vs l) i v ≡ overwritten i (v ∷ vs) l
-set-before i v vs [] h = absurd (omega arith)
-set-before zero v vs (x ∷ l) h = refl
-set-before (suc i) v vs (x ∷ l) h = ap (λ (l : List ℕ). x ∷ l) (set-before i v vs l (omega arith))
-
-pub moved-none : (n to : ℕ) (l : List ℕ) → n ≤ length l → l ≡ moved n n to l
-moved-none n to l h =
-    let e : drop n (take n l) ≡ [] = ap (λ (k : ℕ). drop k (take n l)) (sym (length-take-le n l h)) ∙ drop-length (take n l) in
-    sym (ap (λ (us : List ℕ). overwritten to us l) e ∙ overwritten-none to l)
-
-pub moved-next : (n k i j : ℕ) (l : List ℕ) → i ≡ suc j → i ≤ n → n + k ≤ length l
-    → set (moved n i (i + k) l) (j + k) (getD (moved n i (i + k) l) j 0) ≡ moved n j (j + k) l
-moved-next n k i j l e h m =
-    let u : length (take n l) ≡ n = length-take-le n l (omega arith) in
-    let s : i + k ≡ suc (j + k) = omega arith in
-    let g : getD (moved n i (i + k) l) j 0 ≡ getD (take n l) j 0 =
-    getD-before (i + k) j (drop i (take n l)) l (omega arith) (omega arith) ∙ sym (getD-take n l j 0 (omega arith)) in
-    let d : drop j (take n l) ≡ getD (take n l) j 0 ∷ drop (suc j) (take n l) = drop-cons (take n l) j 0 (omega arith) in
-    ap (set (moved n i (i + k) l) (j + k)) g
-    ∙ ap (λ (q : ℕ). set (overwritten q (drop i (take n l)) l) (j + k) (getD (take n l) j 0)) s
-    ∙ set-before (j + k) (getD (take n l) j 0) (drop i (take n l)) l (omega arith)
-    ∙ ap (λ (q : ℕ). overwritten (j + k) (getD (take n l) j 0 ∷ drop q (take n l)) l) e
-    ∙ ap (λ (us : List ℕ). overwritten (j + k) us l) (sym d)
-
--- values in the room that is left
-
-filled-before : (i j : ℕ) (vs us l : List ℕ) → j ≡ i + length vs → j ≤ length l
-    → overwritten i vs (overwritten j us l) ≡ overlay (take i l ++ (vs ++ us)) l
-filled-before zero zero [] us l e h = refl
-filled-before zero zero (v ∷ vs) us l e h = absurd (omega arith)
-filled-before zero (suc j) [] us l e h = absurd (omega arith)
-filled-before (suc i) zero vs us l e h = absurd (omega arith)
-filled-before zero (suc j) (v ∷ vs) us [] e h = absurd (omega arith)
-filled-before (suc i) (suc j) vs us [] e h = absurd (omega arith)
-filled-before zero (suc j) (v ∷ vs) us (x ∷ l) e h = ap (λ (l : List ℕ). v ∷ l) (filled-before zero j vs us l (omega arith) (omega arith))
-filled-before (suc i) (suc j) vs us (x ∷ l) e h = ap (λ (l : List ℕ). x ∷ l) (filled-before i j vs us l (omega arith) (omega arith))
-
-room-filled : (n low high k : ℕ) (vs l : List ℕ) → k ≡ length vs → low ≤ n → low + k ≤ length l
-    → overwritten low vs (moved n high (low + k) l) ≡ overlay (spliced low high vs (take n l)) l
-room-filled n low high k vs l e h m =
-    filled-before low (low + k) vs (drop high (take n l)) l (omega arith) m
-    ∙ ap (λ (us : List ℕ). overlay (us ++ (vs ++ drop high (take n l))) l) (sym (take-take low n l h))
-
--- the same of the addresses: the room is lent, j elements, and comes back with consecutive ones
-pub room-numbered : (n low high k j a : ℕ) (l us ys : List ℕ) → j ≡ k → low ≤ n → low + k ≤ length l → length us ≡ length l
-    → us ≡ moved n high (low + k) l → ys ≡ consecutive a (length (take j (drop low us)))
-    → take low us ++ (ys ++ drop j (drop low us)) ≡ overlay (spliced low high (consecutive a k) (take n l)) l
-room-numbered n low high k j a l us ys e h m q f g =
-    let c : length (consecutive a k) ≡ k = length-consecutive a k in
-    let w : ys ≡ consecutive a k = g ∙ ap (consecutive a) (part-length low j (consecutive a k) us (omega arith) (omega arith) ∙ c) in
-    part-back low j (consecutive a k) us (omega arith) (omega arith) ys (ap length w)
-    ∙ ap (λ (z : List ℕ). overwritten low z us) w
-    ∙ ap (overwritten low (consecutive a k)) f
-    ∙ room-filled n low high k (consecutive a k) l (sym c) h m
 
 -- Many cells at once
 
@@ -188,74 +116,33 @@ spliced-many n (cell b w c) a vs r = go (spliced-many (suc b) c a vs (rising-res
         let h : a ≤ b = ltb-false b a e in
         rw e (first-many (cell b w c) a vs (and-true (le-leb a b h) (and-right (leb n b) _ r)))
 
--- In buffers
+-- all are present
 
--- the room for k cells, of which some are present, lies within the buffers
-pub record Room (n : ℕ) (xs : List ℕ) (a k low high : ℕ) : Type 0 where
-  pub rises : low ≤ high
-  pub used : high ≤ n
-  pub new : k ≡ missing (take n xs) a k + (high - low)
-  pub fits : n + missing (take n xs) a k ≤ length xs
+-- their addresses stand one behind the other
+all-there : (l : List ℕ) (a n : ℕ) → risingFrom 0 l ≡ true → hasAll l a n ≡ true
+    → (rank l (a + n) ≡ rank l a + n) × (drop (rank l a) l ≡ consecutive a n ++ drop (rank l (a + n)) l)
+all-there l a zero r h = let e : a + 0 ≡ a = omega arith in rw e (omega arith, refl)
+all-there l a (suc n) r h =
+    let t : has l a ≡ true = and-left (has l a) _ h in
+    let k : rank l (suc a) ≡ suc (rank l a) = rw t at (rank-next 0 l a r) in
+    let f = has-rank 0 l a r t in
+    let q : suc a + n ≡ a + suc n = omega arith in
+    let i = rw q at (all-there l (suc a) n r (and-right (has l a) _ h)) in
+    let m : rank l (a + suc n) ≡ rank l (suc a) + n = i .0 in (
+      omega arith,
+      drop-cons l (rank l a) 0 (f .0)
+          ∙ ap (λ (x : ℕ). x ∷ drop (suc (rank l a)) l) (f .1)
+          ∙ ap (λ (l : List ℕ). a ∷ l) (ap (λ (k : ℕ). drop k l) (sym k) ∙ i .1),
+    )
 
-pub room : (n : ℕ) (xs : List ℕ) → Rising n xs → (a k low high : ℕ) → low ≡ rank (take n xs) a → high ≡ rank (take n xs) (a + k)
-    → n + missing (take n xs) a k ≤ length xs → Room n xs a k low high
-room n xs o a k low high e f h =
-    record {
-      rises = ranks-rise n xs o a k low high e f;
-      used = rank-used n xs o (a + k) high f;
-      new = new-cells n xs o a k low high e f;
-      fits = h;
-    }
-
-module _ (n : ℕ) (xs bs : List ℕ) (o : Rising n xs) (l : length bs ≡ length xs) (a k : ℕ) (vs : List ℕ) (q : k ≡ length vs) (low high : ℕ)
-    (e : low ≡ rank (take n xs) a) (f : high ≡ rank (take n xs) (a + k)) where
-  splice : (addresses (putMany (cellsOf n xs bs) a vs) ≡ spliced low high (consecutive a k) (take n xs))
-      × (contents (putMany (cellsOf n xs bs) a vs) ≡ spliced low high vs (take n bs))
-  splice =
-      let c : addresses (cellsOf n xs bs) ≡ take n xs = addresses-of n xs bs o l in
-      let g : rank (addresses (cellsOf n xs bs)) a ≡ low = ap (λ (l : List ℕ). rank l a) c ∙ sym e in
-      let h : rank (addresses (cellsOf n xs bs)) (a + k) ≡ high = ap (λ (l : List ℕ). rank l (a + k)) c ∙ sym f in
-      let m = rw (← q, g, h) at (spliced-many 0 (cellsOf n xs bs) a vs (rises-of n xs bs o l)) in
-      (m .0 ∙ ap (spliced low high (consecutive a k)) c, m .1 ∙ ap (spliced low high vs) (contents-of n xs bs o l))
-
-  contents-filled : n + missing (take n xs) a k ≤ length xs
-      → overwritten low vs (moved n high (low + k) bs) ≡ overlay (contents (putMany (cellsOf n xs bs) a vs)) bs
-  contents-filled h =
-      let r : Room n xs a k low high = room n xs o a k low high e f h in
-      room-filled n low high k vs bs q (omega arith) (omega arith) ∙ ap (λ (z : List ℕ). overlay z bs) (sym (splice .1))
-
-pub count-stored : (n : ℕ) (xs bs : List ℕ) → Rising n xs → length bs ≡ length xs → (a : ℕ) (vs : List ℕ)
-    → count (putMany (cellsOf n xs bs) a vs) ≡ n + missing (take n xs) a (length vs)
-count-stored n xs bs o l a vs =
-    let c : addresses (cellsOf n xs bs) ≡ take n xs = addresses-of n xs bs o l in
-    let m : count (cellsOf n xs bs) ≡ n = sym (length-addresses (cellsOf n xs bs)) ∙ ap length c ∙ length-take-le n xs (o .within) in
-    count-putMany (cellsOf n xs bs) a vs (rises-of n xs bs o l) ∙ rw (c, m)
-
-module _ (tainted : Bool) (n : ℕ) (xs ns ts : List ℕ) (o : Ordered tainted n xs ns ts) (a : ℕ) (vs : List ℕ) (low : ℕ)
-    (e : low ≡ rank (take n xs) a) (h : n + missing (take n xs) a (length vs) ≤ length xs) where
-  abbrev high : ℕ
-  high = rank (take n xs) (a + length vs)
-
-  taints-filled : (s : Bool) → tainted ≡ s → (ts₁ : List ℕ) → ts₁ ≡ choose s (moved n high (low + length vs) ts) ts
-      → choose s (overwritten low (zeros vs) ts₁) ts₁ ≡ choose s (overlay (contents (cleanMany (cells ℕ) (cellsOf n xs ts) a vs)) ts) ts
-  taints-filled true q ts₁ g =
-      ap (overwritten low (zeros vs)) g
-      ∙ contents-filled n xs ts (o .addresses) (o .taintLevel q) a (length vs) (zeros vs) (sym (length-zeros vs)) low high e refl h
-      ∙ ap (λ (t : Cells ℕ). overlay (contents t) ts) (sym (clean-zeros (cellsOf n xs ts) a vs))
-  taints-filled false q ts₁ g = g
-
-  pub room-holds : (r : ℕ) (xs′ ns₁ ts₁ ns′ ts′ : List ℕ) → r ≡ n + missing (take n xs) a (length vs)
-      → xs′ ≡ overlay (spliced low high (consecutive a (length vs)) (take n xs)) xs
-      → ns₁ ≡ moved n high (low + length vs) ns → ts₁ ≡ choose tainted (moved n high (low + length vs) ts) ts
-      → ns′ ≡ overwritten low vs ns₁ → ts′ ≡ choose tainted (overwritten low (zeros vs) ts₁) ts₁
-      → Holding tainted (putMany (cellsOf n xs ns) a vs) (cleanMany (cells ℕ) (cellsOf n xs ts) a vs) r xs ns ts xs′ ns′ ts′
-  room-holds r xs′ ns₁ ts₁ ns′ ts′ u f g k i j =
-      let s = splice n xs ns (o .addresses) (o .level) a (length vs) vs refl low high e refl in
-      record {
-        used = u ∙ sym (count-stored n xs ns (o .addresses) (o .level) a vs);
-        addresses = f ∙ ap (λ (z : List ℕ). overlay z xs) (sym (s .0));
-        numbers = i
-            ∙ ap (overwritten low vs) g
-            ∙ contents-filled n xs ns (o .addresses) (o .level) a (length vs) vs refl low high e refl h;
-        taints = j ∙ taints-filled tainted refl ts₁ k;
-      }
+pub present-many : (c : Cells ℕ) (a : ℕ) (vs : List ℕ) → risingFrom 0 (addresses c) ≡ true → hasAll (addresses c) a (length vs) ≡ true
+    → (addresses (putMany c a vs) ≡ addresses c) × (contents (putMany c a vs) ≡ overwritten (rank (addresses c) a) vs (contents c))
+present-many c a vs r h =
+    let s = spliced-many 0 c a vs r in
+    let t = all-there (addresses c) a (length vs) r h in
+    let i = rank (addresses c) a in (
+      s .0 ∙ ap (λ (l : List ℕ). take i (addresses c) ++ l) (sym (t .1)) ∙ take-append-drop i (addresses c),
+      s .1
+          ∙ ap (λ (k : ℕ). spliced i k vs (contents c)) (t .0)
+          ∙ ap (λ (l : List ℕ). take i (contents c) ++ (vs ++ l)) (sym (drop-drop (length vs) i (contents c))),
+    )

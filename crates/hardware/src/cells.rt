@@ -14,7 +14,7 @@ ghost use Rattle.rules.specs.Taint.{cleanMany};
 ghost use Rattle.rules.specs.Entry.{risingFrom};
 ghost use Rattle.hardware.specs.declared.cells.Found.the-variants as Found;
 ghost use Rattle.hardware.specs.Buffers.{rank, foundOf, spanOf, missing, anyTaint, cellsOf, cellOf, putMany, Rising, Ordered, Holding};
-ghost use Rattle.hardware.specs.Places.{insertAt, keepOf, growOf, overwritten, zeros, consecutive, spliced, moved, Within};
+ghost use Rattle.hardware.specs.Places.{insertAt, overwritten, zeros, consecutive, spliced, moved};
 
 // Where an address is, or where it would go.
 pub enum Found {
@@ -97,12 +97,12 @@ fn rank_of(used: &[u64], address: u64) -> usize
     rank_by_quarters(used, address)
 }
 
-// Where an address is.
-pub fn find(addresses: &[u64], count: usize, address: u64) -> Found
+// Where an address is, by a search.
+fn search(addresses: &[u64], count: usize, address: u64) -> Found
     requires { ⌜ Rising count (now addresses) ⌝ }
     ensures { λ r. ⌜ r ≡ foundOf (take count (now (addresses .entry))) address ⌝ }
 {
-    let at = rank_of(&addresses[..count], address);
+    let at = rank_by_quarters(&addresses[..count], address);
     if at < count {
         if addresses[at] == address {
             return Found::At(at);
@@ -110,6 +110,20 @@ pub fn find(addresses: &[u64], count: usize, address: u64) -> Found
         return Found::Absent(at);
     }
     Found::Absent(at)
+}
+
+// The same. An address that stands at its place without gaps needs no search, and this is little enough code to be compiled into a step.
+pub fn find(addresses: &[u64], count: usize, address: u64) -> Found
+    requires { ⌜ Rising count (now addresses) ⌝ }
+    ensures { λ r. ⌜ r ≡ foundOf (take count (now (addresses .entry))) address ⌝ }
+{
+    let near = place_without_gaps(&addresses[..count], address);
+    if near < count {
+        if addresses[near] == address {
+            return Found::At(near);
+        }
+    }
+    search(addresses, count, address)
 }
 
 // Reads a cell.
@@ -239,104 +253,6 @@ pub fn insert(
     if tainted {
         insert_at(taints, count, at, taint as u64);
     }
-}
-
-// v in the place of what was found, or put in where it would go.
-fn keep(buffer: &mut [u64], count: usize, found: Found, v: u64)
-    requires { ⌜ Within found count (length (now buffer)) ⌝ }
-    ensures { λ _. ⌜ now (buffer .exit) ≡ overlay (keepOf found v (take count (now (buffer .entry)))) (now (buffer .entry)) ⌝ }
-{
-    match found {
-        Found::At(at) => {
-            buffer[at] = v;
-        }
-        Found::Absent(at) => {
-            insert_at(buffer, count, at, v);
-        }
-    }
-}
-
-// In a tainted run a taint, kept as the number is.
-fn keep_taint(tainted: bool, taints: &mut [u64], count: usize, found: Found, taint: bool)
-    requires { ⌜ (tainted ≡ true → Within found count (length (now taints))) ⌝ }
-    ensures { λ _. ⌜ now (taints .exit) ≡ choose tainted (overlay (keepOf found (bit taint) (take count (now (taints .entry)))) (now (taints .entry))) (now (taints .entry)) ⌝ }
-{
-    if tainted {
-        keep(taints, count, found, taint as u64);
-    }
-}
-
-// The address among the addresses; how many they are afterwards.
-fn grow(addresses: &mut [u64], count: usize, found: Found, address: u64) -> usize
-    requires { ⌜ Within found count (length (now addresses)) ⌝ }
-    ensures { λ r. ⌜ r ≡ length (growOf found address (take count (now (addresses .entry)))) ⌝ }
-    ensures { λ _. ⌜ now (addresses .exit) ≡ overlay (growOf found address (take count (now (addresses .entry)))) (now (addresses .entry)) ⌝ }
-{
-    match found {
-        Found::At(_) => count,
-        Found::Absent(at) => {
-            insert_at(addresses, count, at, address);
-            count + 1
-        }
-    }
-}
-
-// Stores a number, and in a tainted run its taint, where a search finds its place; how many cells are used afterwards.
-fn store_by_search(
-    tainted: bool,
-    addresses: &mut [u64],
-    numbers: &mut [u64],
-    taints: &mut [u64],
-    count: usize,
-    address: u64,
-    number: u64,
-    taint: bool,
-) -> usize
-    requires { ⌜ Ordered tainted count (now addresses) (now numbers) (now taints) ⌝ }
-    requires { ⌜ Cells.count (put (cellsOf count (now addresses) (now numbers)) address number) ≤ length (now addresses) ⌝ }
-    ensures { λ r. ⌜ Holding tainted (put (cellsOf count (now (addresses .entry)) (now (numbers .entry))) address number) (put (cellsOf count (now (addresses .entry)) (now (taints .entry))) address (bit taint)) r (now (addresses .entry)) (now (numbers .entry)) (now (taints .entry)) (now (addresses .exit)) (now (numbers .exit)) (now (taints .exit)) ⌝ }
-{
-    let found = find(addresses, count, address);
-    keep_taint(tainted, taints, count, found, taint);
-    keep(numbers, count, found, number);
-    grow(addresses, count, found, address)
-}
-
-// The same. A cell that stands at its place without gaps is written there: no search, and little enough code to be compiled into the step.
-pub fn store(
-    tainted: bool,
-    addresses: &mut [u64],
-    numbers: &mut [u64],
-    taints: &mut [u64],
-    count: usize,
-    address: u64,
-    number: u64,
-    taint: bool,
-) -> usize
-    requires { ⌜ Ordered tainted count (now addresses) (now numbers) (now taints) ⌝ }
-    requires { ⌜ Cells.count (put (cellsOf count (now addresses) (now numbers)) address number) ≤ length (now addresses) ⌝ }
-    ensures { λ r. ⌜ Holding tainted (put (cellsOf count (now (addresses .entry)) (now (numbers .entry))) address number) (put (cellsOf count (now (addresses .entry)) (now (taints .entry))) address (bit taint)) r (now (addresses .entry)) (now (numbers .entry)) (now (taints .entry)) (now (addresses .exit)) (now (numbers .exit)) (now (taints .exit)) ⌝ }
-{
-    let at = place_without_gaps(&addresses[..count], address);
-    if at < count {
-        if addresses[at] == address {
-            numbers[at] = number;
-            if tainted {
-                taints[at] = taint as u64;
-            }
-            return count;
-        }
-    }
-    store_by_search(
-        tainted,
-        addresses,
-        numbers,
-        taints,
-        count,
-        address,
-        number,
-        taint,
-    )
 }
 
 // Clears the taints of a part.

@@ -4,7 +4,8 @@ ghost use Prim.Native.Nat.{_≤_};
 ghost use lib.ListN.{length};
 ghost use Rattle.rules.specs.Step.{overlay};
 
-// Writes values at the front of a part that a caller lends: what is free of a tape or output, or numbers of cells.
+// Writes values at the front of a part that a caller lends: what is free of a tape or output, numbers of cells, the values of
+// a run.
 pub fn write_values(free: &mut [u64], values: &[u64])
     requires { ⌜ length (now values) ≤ length (now free) ⌝ }
     ensures { λ _. ⌜ now (free .exit) ≡ overlay (now (values .entry)) (now (free .entry)) ⌝ }

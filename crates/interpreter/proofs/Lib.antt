@@ -3,7 +3,10 @@ pub mod Parts
 pub mod Fitting
 pub mod Holding
 pub mod Arms
+pub mod Refusing
+pub mod Preparing
 pub mod Iterating
+pub mod Looping
 pub mod Leaving
 pub mod Running
 pub mod BothRuns

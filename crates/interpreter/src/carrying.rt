@@ -9,16 +9,16 @@ use rules::Answer;
 ghost use mathlib.Core.Path.{_≡_};
 ghost use mathlib.Core.List.{_++_};
 ghost use Prim.Native.Nat.{ℕ, _+_, _≤_, _<_};
-ghost use lib.ListN.{length, take};
+ghost use lib.ListN.{length, take, drop};
 ghost use Rattle.rules.specs.Numbers.{heapEnd};
 ghost use Rattle.rules.specs.Cells as Cells;
 ghost use Rattle.rules.specs.Step.{overlay};
 ghost use Rattle.rules.specs.Taint.{cleanMany};
 ghost use Rattle.hardware.specs.Buffers.{cellsOf, putMany, Ordered, Holding};
-ghost use Rattle.effects.specs.Actions.{meant};
+ghost use Rattle.effects.specs.Actions.{meant, Placed};
 ghost use Rattle.effects.specs.Carrying.{part, callValues};
 ghost use Rattle.interpreter.specs.Cores.{coreOf};
-ghost use Rattle.interpreter.specs.Steps.{callAnswer, taintsAfter, coreAfter, Carriable, CarriedOut};
+ghost use Rattle.interpreter.specs.Steps.{callAnswer, taintsAfter, clkAfter, coreAfter, Carriable, CarriedOut};
 
 // The registers' taints after one register was written; in a plain run they rest.
 fn taints_after(mode: Mode, register: usize, taint: bool) -> u64
@@ -116,13 +116,15 @@ fn call_contract(
     Answer::Calling(c0, c1, c2, c3)
 }
 
-// Carries an action out: registers and buffers are changed in place, the rest is handed back.
+// Carries an action out: registers, which are the first of the values, and buffers are changed in place, the rest is handed back. `taint`
+// is that of the registers that the action's number is made of. clk is not looked at: 0 stands for it in what is required, and what is
+// promised holds for any.
 pub(crate) fn carry_out(
     action: Action,
+    taint: bool,
     mode: Mode,
-    registers: &mut [u64; 10],
+    values: &mut [u64],
     pc: u64,
-    clk: u64,
     storage_addr: [u64; 4],
     counts: Counts,
     addresses: &mut [u64],
@@ -131,10 +133,12 @@ pub(crate) fn carry_out(
     tape: &mut [u64],
     output: &mut [u64],
 ) -> Stepped
-    requires { ⌜ Carriable (meant action) (coreOf mode (now registers) pc clk counts (now addresses) (now numbers) (now taints) (now tape) (now output)) ⌝ }
-    ensures { λ r. ⌜ CarriedOut «storage_addr» (meant action) (coreOf mode (now (registers .entry)) pc clk counts (now (addresses .entry)) (now (numbers .entry)) (now (taints .entry)) (now (tape .entry)) (now (output .entry))) (r .finish) (coreAfter mode r (now (registers .exit)) (now (addresses .exit)) (now (numbers .exit)) (now (taints .exit)) (now (tape .exit)) (now (output .exit))) ⌝ }
+    requires { ⌜ 10 ≤ length (now values) ⌝ }
+    requires { ⌜ Placed (take (counts .cells) (now addresses)) action ⌝ }
+    requires { ⌜ Carriable (meant taint action) (coreOf mode (take 10 (now values)) pc 0 counts (now addresses) (now numbers) (now taints) (now tape) (now output)) ⌝ }
+    ensures { λ r. ⌜ ((clk : ℕ) → CarriedOut «storage_addr» (meant taint action) (coreOf mode (take 10 (now (values .entry))) pc clk counts (now (addresses .entry)) (now (numbers .entry)) (now (taints .entry)) (now (tape .entry)) (now (output .entry))) (r .finish) (coreAfter mode r (clkAfter (r .finish) clk) (take 10 (now (values .exit))) (now (addresses .exit)) (now (numbers .exit)) (now (taints .exit)) (now (tape .exit)) (now (output .exit)))) ⌝ }
+    ensures { λ _. ⌜ (length (now (values .exit)) ≡ length (now (values .entry))) × (drop 10 (now (values .exit)) ≡ drop 10 (now (values .entry))) ⌝ }
 {
-    let next_clk = clk + 1;
     let register_taints = mode.register_taints;
     let kind = action.kind;
     let place = action.place;
@@ -142,29 +146,38 @@ pub(crate) fn carry_out(
     let next = action.next;
     match kind {
         Kind::SetRegister => {
-            registers[place] = action.number;
+            values[place] = action.number;
             Stepped {
                 pc: next,
-                clk: next_clk,
                 counts,
-                register_taints: taints_after(mode, place, action.flag),
+                register_taints: taints_after(mode, place, action.flag | taint),
                 finish: Finish::GoesOn,
             }
         }
-        Kind::Store => {
-            let cells = hardware::cells::store(
+        Kind::StoreAt => {
+            hardware::cells::write_at(mode.tainted, numbers, taints, place, action.number, taint);
+            Stepped {
+                pc: next,
+                counts,
+                register_taints,
+                finish: Finish::GoesOn,
+            }
+        }
+        Kind::Insert => {
+            hardware::cells::insert(
                 mode.tainted,
                 addresses,
                 numbers,
                 taints,
                 counts.cells,
+                place,
                 action.address,
                 action.number,
-                action.flag,
+                taint,
             );
+            let cells = counts.cells + 1;
             Stepped {
                 pc: next,
-                clk: next_clk,
                 counts: Counts {
                     cells,
                     tape: counts.tape,
@@ -176,7 +189,6 @@ pub(crate) fn carry_out(
         }
         Kind::Jump => Stepped {
             pc: next,
-            clk: next_clk,
             counts,
             register_taints,
             finish: Finish::GoesOn,
@@ -195,7 +207,6 @@ pub(crate) fn carry_out(
             );
             Stepped {
                 pc: next,
-                clk: next_clk,
                 counts: Counts {
                     cells,
                     tape: counts.tape,
@@ -212,7 +223,6 @@ pub(crate) fn carry_out(
             let output_count = counts.output + count;
             Stepped {
                 pc: next,
-                clk: next_clk,
                 counts: Counts {
                     cells: counts.cells,
                     tape: tape_count,
@@ -234,7 +244,6 @@ pub(crate) fn carry_out(
             let tape_count = counts.tape + 12;
             Stepped {
                 pc: next,
-                clk: next_clk,
                 counts: Counts {
                     cells: counts.cells,
                     tape: tape_count,
@@ -246,21 +255,18 @@ pub(crate) fn carry_out(
         }
         Kind::End => Stepped {
             pc: next,
-            clk: next_clk,
             counts,
             register_taints,
             finish: Finish::Leaves(Answer::Ended),
         },
         Kind::Refuse(refusal) => Stepped {
             pc,
-            clk,
             counts,
             register_taints,
             finish: Finish::Refuses(Answer::Refused(refusal)),
         },
         Kind::Sink => Stepped {
             pc,
-            clk,
             counts,
             register_taints,
             finish: Finish::Refuses(Answer::TaintedSink),

@@ -1,10 +1,9 @@
-// What an opcode asks of its operands, and which of them are sinks.
+// What an opcode asks of its operands.
 use rules::OlaOpcode;
 ghost use mathlib.Core.Path.{_≡_};
 ghost use Rattle.rules.specs.Opcodes.{classOf};
-ghost use Rattle.rules.specs.Operands.{wantsOf};
-ghost use Rattle.rules.specs.Taint.{sinksOf};
-ghost use Rattle.operands.specs.Meanings.{wantsMeant, sinksMeant};
+ghost use Rattle.program.specs.Rows.{lookedAt};
+ghost use Rattle.operands.specs.Meanings.{wantsMeant};
 
 // What is asked of an operand: nothing, that it is absent, its number, a register's number, or a register to write.
 pub enum Want {
@@ -21,17 +20,9 @@ pub struct Wants {
     pub dst: Want,
 }
 
-// Which of its operands, and whether R9, an opcode may not find tainted.
-pub struct Sinks {
-    pub op0: bool,
-    pub op1: bool,
-    pub dst: bool,
-    pub r9: bool,
-}
-
-// What an opcode asks of each of its operands.
+// What an opcode asks of each of its operands. CJMP's op1 is looked at after op0's test.
 pub(crate) fn wants_of(opcode: OlaOpcode) -> Wants
-    ensures { λ r. ⌜ wantsMeant r ≡ wantsOf (classOf opcode) ⌝ }
+    ensures { λ r. ⌜ wantsMeant r ≡ lookedAt (classOf opcode) ⌝ }
 {
     match opcode {
         OlaOpcode::Add
@@ -68,10 +59,9 @@ pub(crate) fn wants_of(opcode: OlaOpcode) -> Wants
             op1: Want::Value,
             dst: Want::Ignored,
         },
-        // op1 is evaluated after op0's test
         OlaOpcode::Cjmp => Wants {
             op0: Want::Value,
-            op1: Want::Ignored,
+            op1: Want::Value,
             dst: Want::Ignored,
         },
         OlaOpcode::Tload => Wants {
@@ -89,64 +79,6 @@ pub(crate) fn wants_of(opcode: OlaOpcode) -> Wants
             op0: Want::Ignored,
             op1: Want::Ignored,
             dst: Want::Ignored,
-        },
-    }
-}
-
-// The uses that stop a tainted step right after its operands.
-pub(crate) fn sinks_of(opcode: OlaOpcode) -> Sinks
-    ensures { λ r. ⌜ sinksMeant r ≡ sinksOf (classOf opcode) ⌝ }
-{
-    match opcode {
-        OlaOpcode::And
-        | OlaOpcode::Or
-        | OlaOpcode::Xor
-        | OlaOpcode::Gte
-        | OlaOpcode::Mload
-        | OlaOpcode::Mstore
-        | OlaOpcode::Tstore
-        | OlaOpcode::Sccall => Sinks {
-            op0: true,
-            op1: true,
-            dst: false,
-            r9: false,
-        },
-        OlaOpcode::Assert | OlaOpcode::Rc | OlaOpcode::Jmp => Sinks {
-            op0: false,
-            op1: true,
-            dst: false,
-            r9: false,
-        },
-        OlaOpcode::Cjmp => Sinks {
-            op0: true,
-            op1: false,
-            dst: false,
-            r9: false,
-        },
-        OlaOpcode::Call => Sinks {
-            op0: false,
-            op1: true,
-            dst: false,
-            r9: true,
-        },
-        OlaOpcode::Ret => Sinks {
-            op0: false,
-            op1: false,
-            dst: false,
-            r9: true,
-        },
-        OlaOpcode::Tload => Sinks {
-            op0: true,
-            op1: true,
-            dst: true,
-            r9: false,
-        },
-        // ADD, MUL, EQ, NEQ, NOT and MOV hand taints on; END and the uncovered ones read no operand
-        _ => Sinks {
-            op0: false,
-            op1: false,
-            dst: false,
-            r9: false,
         },
     }
 }

@@ -2,8 +2,9 @@
 // it is lent, and nothing else is touched.
 //
 // Public: `binary_program::{frame_length, decode, check_words}`.
-// Internal, for the crates above: `table::{load_words, fetch}`, and the methods of `table::Row`, which take a field from a fetched row.
+// Internal, for the crates above: `table::{load_words, row_at}`, the methods of `table::Row`, which take a number from a row, and
+// `opcodes::opcode`, `operand_kinds::{value_words, register}`.
 pub mod binary_program;
-mod opcodes;
-mod operand_kinds;
+pub mod opcodes;
+pub mod operand_kinds;
 pub mod table;

@@ -21,6 +21,8 @@ use rules::Machine;
 use rules::Refusal;
 ghost use mathlib.Core.Path.{_≡_};
 ghost use mathlib.Core.List.{List};
+ghost use Prim.Native.Nat.{_+_, _≤_};
+ghost use lib.ListN.{length};
 ghost use Rattle.rules.specs.declared.Answer.the-variants.{Refused};
 ghost use Rattle.rules.specs.declared.Instruction.{Instruction};
 ghost use Rattle.rules.specs.Results.{Result, pass};
@@ -74,7 +76,8 @@ fn accepts(
 // Runs a loaded program, if the state is fit.
 fn enter(
     words: &[u64],
-    rows: &[u64],
+    rows: &[u16],
+    values: &mut [u64],
     budget: u64,
     machine: Machine,
     register_taints: u64,
@@ -85,6 +88,7 @@ fn enter(
     output: &mut [u64],
 ) -> Called
     requires { ⌜ Loaded (now words) (now rows) ⌝ }
+    requires { ⌜ 14 + length (now words) ≤ length (now values) ⌝ }
     ensures { λ r. ⌜ called r (now (addresses .exit)) (now (numbers .exit)) (now (taints .exit)) (now (tape .exit)) (now (output .exit)) ≡ taintedCall (pass (programOf (now (words .entry)))) budget (snapshot machine «register_taints» (now (addresses .entry)) (now (numbers .entry)) (now (taints .entry)) (now (tape .entry)) (now (output .entry))) ⌝ }
 {
     if accepts(
@@ -105,6 +109,7 @@ fn enter(
             machine,
             words,
             rows,
+            values,
             budget,
             addresses,
             numbers,
@@ -127,7 +132,8 @@ fn enter(
 // Loads a program of bare words into empty rows, and runs it.
 fn load_and_enter(
     words: &[u64],
-    rows: &mut [u64],
+    rows: &mut [u16],
+    values: &mut [u64],
     budget: u64,
     machine: Machine,
     register_taints: u64,
@@ -138,12 +144,14 @@ fn load_and_enter(
     output: &mut [u64],
 ) -> Called
     requires { ⌜ EmptyRows (now words) (now rows) ⌝ }
+    requires { ⌜ (length (now words) ≤ 2048 → 14 + length (now words) ≤ length (now values)) ⌝ }
     ensures { λ r. ⌜ called r (now (addresses .exit)) (now (numbers .exit)) (now (taints .exit)) (now (tape .exit)) (now (output .exit)) ≡ taintedWords (now (words .entry)) budget (snapshot machine «register_taints» (now (addresses .entry)) (now (numbers .entry)) (now (taints .entry)) (now (tape .entry)) (now (output .entry))) ⌝ }
 {
     match table::load_words(words, rows) {
         Checked::Frames(_) => enter(
             words,
             rows,
+            values,
             budget,
             machine,
             register_taints,
@@ -171,11 +179,13 @@ pub fn run_words(
 ) -> Called
     ensures { λ r. ⌜ called r (now (addresses .exit)) (now (numbers .exit)) (now (taints .exit)) (now (tape .exit)) (now (output .exit)) ≡ taintedWords (now (words .entry)) budget (snapshot machine «register_taints» (now (addresses .entry)) (now (numbers .entry)) (now (taints .entry)) (now (tape .entry)) (now (output .entry))) ⌝ }
 {
-    if words.len() <= table::SHORT_WORDS {
-        let mut rows = [0u64; table::SHORT_ROWS];
+    if words.len() <= table::TINY_WORDS {
+        let mut rows = [0u16; table::TINY_ROWS];
+        let mut values = [0u64; table::TINY_VALUES];
         return load_and_enter(
             words,
             &mut rows,
+            &mut values,
             budget,
             machine,
             register_taints,
@@ -186,10 +196,29 @@ pub fn run_words(
             output,
         );
     }
-    let mut rows = [0u64; table::ROWS];
+    if words.len() <= table::SHORT_WORDS {
+        let mut rows = [0u16; table::SHORT_ROWS];
+        let mut values = [0u64; table::SHORT_VALUES];
+        return load_and_enter(
+            words,
+            &mut rows,
+            &mut values,
+            budget,
+            machine,
+            register_taints,
+            addresses,
+            numbers,
+            taints,
+            tape,
+            output,
+        );
+    }
+    let mut rows = [0u16; table::ROWS];
+    let mut values = [0u64; table::VALUES];
     load_and_enter(
         words,
         &mut rows,
+        &mut values,
         budget,
         machine,
         register_taints,

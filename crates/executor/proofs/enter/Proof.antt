@@ -17,7 +17,18 @@ slice-aggregate-run : tie.Need-slice-aggregate-run
 slice-aggregate-run c = search needs
 
 run-requires : tie.Need-run-requires
-run-requires c κs = (c .before .before .before .before .before .before .before .before .before .before .before .before .before .before .before .before .before .pre, record { plain = sym (c .before .before .before .before .before .before .accepts .ensures) ∙ c .before .before .before .before .before .if1 .taken; tainted = λ t. absurd (false-true t); untainted = λ _. (refl, refl) })
+run-requires c κs =
+    let s = c .before .before .before .before .before .before .before .before .before .before .before .before .before .before .before .before .before .before .before in (
+      s .pre .0,
+      (
+        s .pre .1,
+        record {
+          plain = sym (c .before .before .before .before .before .before .before .accepts .ensures) ∙ c .before .before .before .before .before .before .if1 .taken;
+          tainted = λ t. absurd (false-true t);
+          untainted = λ _. (refl, refl);
+        },
+      ),
+    )
 
 same-length : tie.Need-same-length
 same-length c = search needs
@@ -31,14 +42,16 @@ same-length-3 c = search needs
 same-length-4 : tie.Need-same-length-4
 same-length-4 c = search needs
 
+same-length-5 : tie.Need-same-length-5
+same-length-5 c = search needs
+
 returns : tie.Need-returns
-returns c = entered _ _ _ _ (sym (c .before .before .before .before .before .before .before .before .before .before .before .before .before .before .before .before .before .accepts .ensures) ∙ c .before .before .before .before .before .before .before .before .before .before .before .before .before .before .before .before .if1 .taken) (runs-plain _ _ _ _ _ _ (c .before .before .before .before .before .before .before .before .before .before .run .ensures) refl)
+returns c =
+    entered _ _ _ _ (sym (c .before .before .before .before .before .before .before .before .before .before .before .before .before .before .before .before .before .before .before .before .accepts .ensures) ∙ c .before .before .before .before .before .before .before .before .before .before .before .before .before .before .before .before .before .before .before .if1 .taken)
+    (runs-plain _ _ _ _ _ _ (c .before .before .before .before .before .before .before .before .before .before .before .before .run .ensures) refl)
 
 refuse-requires : tie.Need-refuse-requires
 refuse-requires c κs = search needs
-
-same-length-5 : tie.Need-same-length-5
-same-length-5 c = search needs
 
 same-length-6 : tie.Need-same-length-6
 same-length-6 c = search needs
@@ -48,6 +61,9 @@ same-length-7 c = search needs
 
 same-length-8 : tie.Need-same-length-8
 same-length-8 c = search needs
+
+same-length-9 : tie.Need-same-length-9
+same-length-9 c = search needs
 
 returns-2 : tie.Need-returns-2
 returns-2 c = unfit _ _ _ _ (sym (c .before .before .accepts .ensures) ∙ c .before .if1 .left) (refused-is _ _ _ _ _ _ _ (c .refuse .ensures))
@@ -64,10 +80,11 @@ enter-spec =
     same-length-2
     same-length-3
     same-length-4
+    same-length-5
     returns
     refuse-requires
-    same-length-5
     same-length-6
     same-length-7
     same-length-8
+    same-length-9
     returns-2)

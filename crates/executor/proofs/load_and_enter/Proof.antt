@@ -13,7 +13,9 @@ enum-told : tie.Need-enum-told
 enum-told c = search needs
 
 enter-requires : tie.Need-enter-requires
-enter-requires c κs = let l = subst (Loads _ _) (c .before .before .before .before .before .enum-told .given .1) (c .before .before .before .before .before .before .before .before .before .load-words .ensures) in record { loads = l .0; table = l .2 }
+enter-requires c κs =
+    let l = subst (Loads _ _) (c .before .before .before .before .before .before .enum-told .given .1) (c .before .before .before .before .before .before .before .before .before .before .load-words .ensures) in
+    (record { loads = l .0; table = l .2 }, c .before .before .before .before .before .before .before .before .before .before .before .before .before .before .before .before .before .before .before .pre .1 (l .2 .words))
 
 enum-known-refusal : tie.Need-enum-known-refusal
 enum-known-refusal c = search needs
@@ -36,14 +38,21 @@ same-length-4 c = search needs
 same-length-5 : tie.Need-same-length-5
 same-length-5 c = search needs
 
-returns : tie.Need-returns
-returns c = let l = subst (Loads _ _) (c .before .before .before .before .before .before .before .before .before .before .before .before .before .before .enum-told .given .1) (c .before .before .before .before .before .before .before .before .before .before .before .before .before .before .before .before .before .before .load-words .ensures) in words-loaded _ _ _ _ (l .0) (c .before .before .before .before .before .before .before .before .enter .ensures)
-
 same-length-6 : tie.Need-same-length-6
 same-length-6 c = search needs
 
+returns : tie.Need-returns
+returns c =
+    let l = subst (Loads _ _) (c .before .before .before .before .before .before .before .before .before .before .before .before .before .before .before .before .before .enum-told .given .1) (c .before .before .before .before .before .before .before .before .before .before .before .before .before .before .before .before .before .before .before .before .before .load-words .ensures) in
+    words-loaded _ _ _ _ (l .0) (c .before .before .before .before .before .before .before .before .before .before .enter .ensures)
+
+same-length-7 : tie.Need-same-length-7
+same-length-7 c = search needs
+
 returns-2 : tie.Need-returns-2
-returns-2 c = words-refused _ _ _ _ _ (subst (Loads _ _) (c .before .before .refusal .given .1) (c .before .before .before .before .before .before .load-words .ensures)) (refused-is _ _ _ _ _ _ _ (c .refuse .ensures))
+returns-2 c =
+    words-refused _ _ _ _ _ (subst (Loads _ _) (c .before .before .refusal .given .1) (c .before .before .before .before .before .before .load-words .ensures))
+    (refused-is _ _ _ _ _ _ _ (c .refuse .ensures))
 
 pub load-and-enter-spec : {M : Type 1} → statement M
 load-and-enter-spec =
@@ -59,6 +68,7 @@ load-and-enter-spec =
     same-length-3
     same-length-4
     same-length-5
-    returns
     same-length-6
+    returns
+    same-length-7
     returns-2)

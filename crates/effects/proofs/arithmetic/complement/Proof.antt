@@ -21,19 +21,16 @@ refuse-requires c κs = search needs
 
 returns : tie.Need-returns
 unfolding check
-returns c ws = rw (none (isElement (c .before .before .before .before .args .a)) (fieldComplement (c .before .before .before .before .args .a)) (sym (c .before .before .before .complement .ensures) ∙ c .before .enum-told .given .1)) (c .refuse .ensures)
-
-op1-taint-requires : tie.Need-op1-taint-requires
-op1-taint-requires c κs = search needs
+returns c = rw (none (isElement (c .before .before .before .before .args .a)) (fieldComplement (c .before .before .before .before .args .a)) (sym (c .before .before .before .complement .ensures) ∙ c .before .enum-told .given .1)) (c .refuse .ensures)
 
 set-register-requires : tie.Need-set-register-requires
 set-register-requires c κs = search needs
 
 returns-2 : tie.Need-returns-2
 unfolding check
-returns-2 c ws =
-    let e = element (isElement (c .before .before .before .before .before .before .args .a)) (fieldComplement (c .before .before .before .before .before .before .args .a)) (c .before .before .before .x .given .0 .0) (sym (c .before .before .before .before .before .complement .ensures) ∙ c .before .before .before .x .given .1) in
-    rw (e .0, ← e .1, ← c .before .op1-taint .ensures ws) (c .set-register .ensures)
+returns-2 c =
+    let e = element (isElement (c .before .before .before .before .before .args .a)) (fieldComplement (c .before .before .before .before .before .args .a)) (c .before .before .x .given .0 .0) (sym (c .before .before .before .before .complement .ensures) ∙ c .before .before .x .given .1) in
+    rw (e .0, ← e .1) (c .set-register .ensures)
 
 pub complement-spec : {M : Type 1} → statement M
 complement-spec =
@@ -44,6 +41,5 @@ complement-spec =
     enum-told
     refuse-requires
     returns
-    op1-taint-requires
     set-register-requires
     returns-2)

@@ -1,4 +1,4 @@
--- `effects::arithmetic::in_field` meets its contract: by the result, and the taint of op0 or op1.
+-- `effects::arithmetic::in_field` meets its contract: by the result.
 use borrow.Author.Needs.{needs}
 use Rattle.effects.proofs.arithmetic.in_field.Statement.{statement}
 use Rattle.effects.proofs.arithmetic.in_field.Tie as tie
@@ -13,16 +13,13 @@ refuse-requires : tie.Need-refuse-requires
 refuse-requires c κs = search needs
 
 returns : tie.Need-returns
-returns c ws = rw (c .before .enum-told .given .1) (c .refuse .ensures)
-
-both-taint-requires : tie.Need-both-taint-requires
-both-taint-requires c κs = search needs
+returns c = rw (c .before .enum-told .given .1) (c .refuse .ensures)
 
 set-register-requires : tie.Need-set-register-requires
 set-register-requires c κs = search needs
 
 returns-2 : tie.Need-returns-2
-returns-2 c ws = rw (c .before .before .before .result .given .1, ← c .before .both-taint .ensures ws) (c .set-register .ensures)
+returns-2 c = rw (c .before .before .result .given .1) (c .set-register .ensures)
 
 pub in-field-spec : {M : Type 1} → statement M
 in-field-spec =
@@ -32,6 +29,5 @@ in-field-spec =
     enum-told
     refuse-requires
     returns
-    both-taint-requires
     set-register-requires
     returns-2)

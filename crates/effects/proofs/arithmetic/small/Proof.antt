@@ -1,7 +1,9 @@
 -- `effects::arithmetic::small` meets its contract: op0's test before op1's.
-use mathlib.Core.Path.{sym, _∙_}
+use mathlib.Core.Path.{_≡_, sym, _∙_}
+use mathlib.Core.Bool.{true, false}
 use borrow.Author.Needs.{needs}
 use borrow.Author.Tests.{not-true, not-false}
+use Rattle.rules.specs.Step.{isSmall}
 use Rattle.effects.specs.Effects.{check}
 use Rattle.effects.proofs.arithmetic.small.Statement.{statement}
 use Rattle.effects.proofs.arithmetic.small.Tie as tie
@@ -14,7 +16,9 @@ refuse-requires c κs = search needs
 
 returns : tie.Need-returns
 unfolding check
-returns c ws = rw (sym (c .before .before .is-small .ensures) ∙ not-true _ (c .before .if1 .taken)) (c .refuse .ensures)
+returns c =
+    let e : isSmall (c .before .before .before .args .a) ≡ false = sym (c .before .before .is-small .ensures) ∙ not-true _ (c .before .if1 .taken) in
+    rw e (c .refuse .ensures)
 
 is-small-requires-2 : tie.Need-is-small-requires-2
 is-small-requires-2 c κs = search needs
@@ -24,19 +28,22 @@ refuse-requires-2 c κs = search needs
 
 returns-2 : tie.Need-returns-2
 unfolding check
-returns-2 c ws =
-    rw (sym (c .before .before .before .before .is-small .ensures) ∙ not-false _ (c .before .before .before .if1 .left), sym (c .before .before .is-small2 .ensures) ∙ not-true _ (c .before .if2 .taken)) (c .refuse2 .ensures)
-
-both-taint-requires : tie.Need-both-taint-requires
-both-taint-requires c κs = search needs
+returns-2 c =
+    let a = c .before .before .before .before .before .args in
+    let e : isSmall (a .a) ≡ true = sym (c .before .before .before .before .is-small .ensures) ∙ not-false _ (c .before .before .before .if1 .left) in
+    let f : isSmall (a .b) ≡ false = sym (c .before .before .is-small2 .ensures) ∙ not-true _ (c .before .if2 .taken) in
+    rw (e, f) (c .refuse2 .ensures)
 
 set-register-requires : tie.Need-set-register-requires
 set-register-requires c κs = search needs
 
 returns-3 : tie.Need-returns-3
 unfolding check
-returns-3 c ws =
-    rw (sym (c .before .before .before .before .before .is-small .ensures) ∙ not-false _ (c .before .before .before .before .if1 .left), sym (c .before .before .before .is-small2 .ensures) ∙ not-false _ (c .before .before .if2 .left), ← c .before .both-taint .ensures ws) (c .set-register .ensures)
+returns-3 c =
+    let a = c .before .before .before .before .before .args in
+    let e : isSmall (a .a) ≡ true = sym (c .before .before .before .before .is-small .ensures) ∙ not-false _ (c .before .before .before .if1 .left) in
+    let f : isSmall (a .b) ≡ true = sym (c .before .before .is-small2 .ensures) ∙ not-false _ (c .before .if2 .left) in
+    rw (e, f) (c .set-register .ensures)
 
 pub small-spec : {M : Type 1} → statement M
 small-spec =
@@ -48,6 +55,5 @@ small-spec =
     is-small-requires-2
     refuse-requires-2
     returns-2
-    both-taint-requires
     set-register-requires
     returns-3)

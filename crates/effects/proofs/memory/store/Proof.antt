@@ -13,7 +13,7 @@ refuse-requires : tie.Need-refuse-requires
 refuse-requires c κs = search needs
 
 returns : tie.Need-returns
-returns c = rw (c .before .enum-told .given .1) (c .refuse .ensures)
+returns c = rw (c .before .enum-told .given .1) (c .refuse .ensures _)
 
 store-cell-requires : tie.Need-store-cell-requires
 store-cell-requires c κs = search needs

@@ -1,10 +1,12 @@
--- `effects::memory::store_cell` meets its contract: the tests, then capacity; an address that passes is below the heap's end.
-use mathlib.Core.Path.{sym, _∙_}
+-- `effects::memory::store_cell` meets its contract: the tests, then the place, then capacity for a new cell.
+use mathlib.Core.Path.{_≡_, sym, _∙_}
 use native.Mathlib.Omega.{arith}
+use lib.ListN.{take}
 use borrow.Author.Needs.{needs}
-use Rattle.rules.specs.Numbers.{heapEnd, wordEnd}
+use Rattle.effects.specs.declared.memory.Tested.the-variants.{Passes}
 use Rattle.effects.specs.Effects.{check}
-use Rattle.effects.proofs.StoreTests.{passes-below}
+use Rattle.effects.specs.Operations.{testOf}
+use Rattle.effects.proofs.StoreTests.{capacity-present, capacity-new, capacity-none}
 use Rattle.effects.proofs.memory.store_cell.Statement.{statement}
 use Rattle.effects.proofs.memory.store_cell.Tie as tie
 
@@ -20,29 +22,54 @@ refuse-requires c κs = search needs
 enum-told : tie.Need-enum-told
 enum-told c = search needs
 
-has-capacity-requires : tie.Need-has-capacity-requires
-unfolding heapEnd wordEnd
-has-capacity-requires c κs =
-    let s = c .before .before .before .before in
-    let k = passes-below (s .args .address) (s .args .number) (sym (c .before .before .test-store .ensures) ∙ c .enum-told .given .1) in
-    (s .pre, omega arith)
+-- the tests passed
+passes : (c : tie.After-enum-told) → let a = c .before .before .before .before .args in testOf (a .address) (a .number) ≡ Passes
+passes c = sym (c .before .before .test-store .ensures) ∙ c .enum-told .given .1
 
-store-requires : tie.Need-store-requires
-store-requires c κs = search needs
+find-requires : tie.Need-find-requires
+find-requires c κs = search needs
+
+enum-known-at : tie.Need-enum-known-at
+enum-known-at c = search needs
+
+store-at-requires : tie.Need-store-at-requires
+store-at-requires c κs = search needs
+
+enum-known-at-2 : tie.Need-enum-known-at-2
+enum-known-at-2 c = search needs
+
+insert-requires : tie.Need-insert-requires
+insert-requires c κs = search needs
 
 returns : tie.Need-returns
 unfolding check
-returns c = rw (sym (c .before .before .before .before .before .test-store .ensures) ∙ c .before .before .before .enum-told .given .1, sym (c .before .before .has-capacity .ensures) ∙ c .before .if1 .taken) (c .store .ensures)
+returns c =
+    let s = c .before .before .before .before .before .before .before .before .before .before .args in
+    let e = sym (c .before .before .before .at2 .given .1) ∙ c .before .before .before .before .before .find .ensures in
+    rw (passes (c .before .before .before .before .before .before), capacity-new (s .count) (s .addresses .now) (s .address) _ (omega arith) (sym e))
+    (c .insert .ensures (take (s .count) (s .addresses .now)) e)
 
 refuse-requires-2 : tie.Need-refuse-requires-2
 refuse-requires-2 c κs = search needs
 
 returns-2 : tie.Need-returns-2
-returns-2 c = rw (sym (c .before .before .before .before .test-store .ensures) ∙ c .before .before .f .given .1) (c .refuse .ensures)
+returns-2 c = rw (sym (c .before .before .before .before .test-store .ensures) ∙ c .before .before .f .given .1) (c .refuse .ensures _)
 
 returns-3 : tie.Need-returns-3
 unfolding check
-returns-3 c = rw (sym (c .before .before .before .before .before .test-store .ensures) ∙ c .before .before .before .enum-told .given .1, sym (c .before .before .has-capacity .ensures) ∙ c .before .if1 .left) (c .refuse2 .ensures)
+returns-3 c =
+    let s = c .before .before .before .before .before .before .before .before .before in
+    let e = sym (c .before .before .at .given .1) ∙ c .before .before .before .before .find .ensures in
+    rw (passes (c .before .before .before .before .before), capacity-present (s .args .count) (s .args .addresses .now) (s .args .address) _ (s .pre .within) (sym e))
+    (c .store-at .ensures (take (s .args .count) (s .args .addresses .now)) e)
+
+returns-4 : tie.Need-returns-4
+unfolding check
+returns-4 c =
+    let s = c .before .before .before .before .before .before .before .before .before .before .args in
+    let e = sym (c .before .before .before .at2 .given .1) ∙ c .before .before .before .before .before .find .ensures in
+    rw (passes (c .before .before .before .before .before .before), capacity-none (s .count) (s .addresses .now) (s .address) _ (omega arith) (sym e))
+    (c .refuse2 .ensures _)
 
 pub store-cell-spec : {M : Type 1} → statement M
 store-cell-spec =
@@ -52,9 +79,13 @@ store-cell-spec =
     enum-known-f
     refuse-requires
     enum-told
-    has-capacity-requires
-    store-requires
+    find-requires
+    enum-known-at
+    store-at-requires
+    enum-known-at-2
+    insert-requires
     returns
     refuse-requires-2
     returns-2
-    returns-3)
+    returns-3
+    returns-4)

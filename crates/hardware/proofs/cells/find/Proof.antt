@@ -1,16 +1,27 @@
--- `hardware::cells::find` meets its contract: an address is present where it stands at its rank.
-use mathlib.Core.Path.{sym}
+-- `hardware::cells::find` meets its contract: an address that stands at a place has this rank.
+use Prim.Native.Nat.{ℕ, _<_}
+use mathlib.Core.Path.{_≡_, sym, _∙_}
+use mathlib.Core.List.{List}
+use lib.ListN.{getD, take}
+use lib.Seq.{length-take-le, getD-take}
 use borrow.Author.Needs.{needs}
-use lib.Seq.{length-take-le}
-use Rattle.hardware.proofs.BufferLaws.{found-present, found-other, found-end}
+use Rattle.hardware.specs.declared.cells.Found.the-variants.{At}
+use Rattle.hardware.specs.Buffers.{rank, foundOf, Rising}
+use Rattle.hardware.proofs.BufferLaws.{found-present}
+use Rattle.hardware.proofs.RankLaws.{rank-here}
 use Rattle.hardware.proofs.cells.find.Statement.{statement}
 use Rattle.hardware.proofs.cells.find.Tie as tie
 
-slice-aggregate-rank-of : tie.Need-slice-aggregate-rank-of
-slice-aggregate-rank-of c = sym (length-take-le _ _ (c .before .before .pre .within))
+here : (n : ℕ) (xs : List ℕ) → Rising n xs → (a i : ℕ) → i < n → getD xs i 0 ≡ a → At i ≡ foundOf (take n xs) a
+here n xs o a i h e =
+    let r : i ≡ rank (take n xs) a = sym (rank-here (take n xs) a i (o .rises) (rw (length-take-le n xs (o .within)) h) (getD-take n xs i 0 h ∙ e)) in
+    found-present n xs o a i r h e
 
-rank-of-requires : tie.Need-rank-of-requires
-rank-of-requires c κs = search needs
+slice-aggregate-place-without-gaps : tie.Need-slice-aggregate-place-without-gaps
+slice-aggregate-place-without-gaps c = sym (length-take-le _ _ (c .before .before .pre .within))
+
+place-without-gaps-requires : tie.Need-place-without-gaps-requires
+place-without-gaps-requires c κs = search needs
 
 mul-if2 : tie.Need-mul-if2
 mul-if2 c = search needs
@@ -21,20 +32,15 @@ shared-slice-read-if2 c = search needs
 returns : tie.Need-returns
 returns c =
     let s = c .before .before .before .before .before .before in
-    let r = c .before .before .before .rank-of in
-    found-present (s .args .count) (s .args .addresses .now) (s .pre) (s .args .address) (r .result) (r .ensures) (c .before .before .if1 .taken) (c .if2 .taken)
+    here (s .args .count) (s .args .addresses .now) (s .pre) (s .args .address) _ (c .before .before .if1 .taken) (c .if2 .taken)
+
+search-requires : tie.Need-search-requires
+search-requires c κs = search needs
 
 returns-2 : tie.Need-returns-2
-returns-2 c =
-    let s = c .before .before .before .before .before .before in
-    let r = c .before .before .before .rank-of in
-    found-other (s .args .count) (s .args .addresses .now) (s .pre) (s .args .address) (r .result) (r .ensures) (c .before .before .if1 .taken) (c .if2 .left)
-
-returns-3 : tie.Need-returns-3
-returns-3 c =
-    let s = c .before .before .before .before in
-    let r = c .before .rank-of in
-    found-end (s .args .count) (s .args .addresses .now) (s .pre) (s .args .address) (r .result) (r .ensures) (c .if1 .left)
+returns-2 c = search needs
 
 pub find-spec : {M : Type 1} → statement M
-find-spec = tie.close (tie.spec slice-aggregate-rank-of rank-of-requires mul-if2 shared-slice-read-if2 returns returns-2 returns-3)
+find-spec =
+    tie.close
+    (tie.spec slice-aggregate-place-without-gaps place-without-gaps-requires mul-if2 shared-slice-read-if2 returns search-requires returns-2)

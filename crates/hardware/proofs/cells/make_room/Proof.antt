@@ -8,7 +8,7 @@ use lib.Seq.{length-take-le}
 use Rattle.rules.specs.Numbers.{wordEnd, choose}
 use Rattle.hardware.specs.Buffers.{rank}
 use Rattle.hardware.specs.Places.{moved}
-use Rattle.hardware.proofs.SpliceLaws.{room-numbered, Room, room}
+use Rattle.hardware.proofs.RoomLaws.{room-numbered, Room, room}
 use borrow.Author.Needs.{needs}
 use Rattle.hardware.proofs.cells.make_room.Statement.{statement}
 use Rattle.hardware.proofs.cells.make_room.Tie as tie

@@ -1,6 +1,6 @@
 -- `hardware::cells::move_contents` meets its contract, by `move_up` of the numbers, and in a tainted run of the taints.
 use mathlib.Core.Path.{_≡_}
-use mathlib.Core.Bool.{true, false}
+use mathlib.Core.Bool.{true}
 use native.Mathlib.Omega.{arith}
 use lib.ListN.{length}
 use borrow.Author.Needs.{needs}

@@ -8,7 +8,7 @@ use Rattle.rules.specs.Numbers.{wordEnd}
 use Rattle.hardware.specs.Buffers.{missing}
 use Rattle.hardware.proofs.BufferLaws.{span-at, span-ends}
 use Rattle.hardware.proofs.OverwriteLaws.{within-words, overwritten-holds}
-use Rattle.hardware.proofs.SpliceLaws.{room, count-stored, room-holds}
+use Rattle.hardware.proofs.RoomLaws.{room, count-stored, room-holds}
 use borrow.Author.Needs.{needs}
 use Rattle.hardware.proofs.cells.store_many.Statement.{statement}
 use Rattle.hardware.proofs.cells.store_many.Tie as tie

@@ -1,131 +1,180 @@
 -- `interpreter::carrying::carry_out` meets its contract: a law for each kind of action.
-use mathlib.Core.Path.{_≡_, ap}
+use Prim.Native.Nat.{ℕ, _<_}
+use mathlib.Core.Path.{_≡_, refl, ap, subst}
+use mathlib.Core.Bool.{Bool}
+use mathlib.Core.List.{List}
 use native.Mathlib.Omega.{arith}
-use lib.ListN.{length}
+use lib.ListN.{length, take, length-set}
+use lib.Seq.{take-set-lt, drop-set-lt}
 use borrow.Author.Needs.{needs}
 use Rattle.effects.specs.declared.Kind.{Kind}
 use Rattle.effects.specs.declared.Action.{Action}
-use Rattle.effects.specs.Actions.{byKind, meant}
+use Rattle.effects.specs.Actions.{Effect, byKind, meant, placedBy, Placed}
 use Rattle.interpreter.specs.Cores.{Core, coreOf}
-use Rattle.interpreter.proofs.Arms.{next-clock, register-named, store-asks, load-asks, tape-asks, output-asks, call-asks, sets-register, stores-cell, jumps, loads-tape, stores-tape, calls-contract, ends-run, refuses-step, sinks}
+use Rattle.interpreter.proofs.Arms.{Applies, applies, register-named, write-asks, insert-asks, load-asks, tape-asks, output-asks, call-asks}
+use Rattle.interpreter.proofs.Arms.{sets-register, writes-cell, stores-cell, jumps, loads-tape, stores-tape, calls-contract}
+use Rattle.interpreter.proofs.Arms.{ends-run, refuses-step, sinks}
 use Rattle.interpreter.proofs.carrying.carry_out.Statement.{statement}
 use Rattle.interpreter.proofs.carrying.carry_out.Tie as tie
 
-abbrev core : tie.Start → Core
-core s =
-    coreOf (s .args .mode) (s .args .registers .now) (s .args .pc) (s .args .clk) (s .args .counts) (s .args .addresses .now) (s .args .numbers .now) (s .args .taints .now) (s .args .tape .now) (s .args .output .now)
+abbrev core : ℕ → tie.Start → Core
+core clk s =
+    let a = s .args in
+    coreOf (a .mode) (take 10 (a .values .now)) (a .pc) clk (a .counts) (a .addresses .now) (a .numbers .now) (a .taints .now) (a .tape .now)
+    (a .output .now)
 
--- what an action of a known kind means
-meant-by : (a : Action) {k : Kind} → a .kind ≡ k → meant a ≡ byKind k a
+abbrev effect : tie.Start → Effect
+effect s = meant (s .args .taint) (s .args .action)
+
+can : (clk : ℕ) (s : tie.Start) → Applies (effect s) (core clk s)
+can clk s = applies clk (s .pre .1 .1)
+
+four : (s : tie.Start) → length (s .args .storage-addr) ≡ 4
+four s = search needs
+
+-- every arm begins where the last buffer is known
+abbrev start : tie.After-slice-known6 → tie.Start
+start c = c .before .before .before .before .before .before
+
+-- what an action of a known kind means, and where its cell is
+meant-by : (t : Bool) (a : Action) {k : Kind} → a .kind ≡ k → meant t a ≡ byKind k t a
 unfolding meant
-meant-by a e = ap (λ (k : Kind). byKind k a) e
+meant-by t a e = ap (λ (k : Kind). byKind k t a) e
 
-add-next-clk : tie.Need-add-next-clk
-add-next-clk c =
-    let s = c .before .before .before .before .before in
-    omega (arith, next-clock (core s) (s .args .storage-addr) (meant (s .args .action)) (s .pre))
+placed-by : (l : List ℕ) (a : Action) {k : Kind} → a .kind ≡ k → Placed l a → placedBy k l a
+unfolding Placed
+placed-by l a e p = subst (λ (k : Kind). placedBy k l a) e p
+
+register-below : (c : tie.After-enum-told) → start (c .before .before) .args .action .place < 10
+register-below c =
+    let s = start (c .before .before) in
+    let e = meant-by (s .args .taint) (s .args .action) (c .enum-told .given .1) in
+    register-named (core 0 s) (s .args .storage-addr) (effect s) (can 0 s) _ _ _ _ e
 
 enum-told : tie.Need-enum-told
 enum-told c = search needs
 
-mul-registers : tie.Need-mul-registers
-mul-registers c =
-    let s = c .before .before .before .before .before .before .before in
-    let e = meant-by (s .args .action) (c .enum-told .given .1) in
-    omega (arith, register-named (core s) (s .args .storage-addr) (meant (s .args .action)) (s .pre) _ _ _ _ e)
+mul-values : tie.Need-mul-values
+mul-values c = omega (arith, register-below c)
 
-element-write-registers : tie.Need-element-write-registers
-element-write-registers c =
-    let s = c .before .before .before .before .before .before .before in
-    let e = meant-by (s .args .action) (c .enum-told .given .1) in
-    register-named (core s) (s .args .storage-addr) (meant (s .args .action)) (s .pre) _ _ _ _ e
+slice-write-values : tie.Need-slice-write-values
+slice-write-values c = let s = start (c .before .before) in omega (arith, register-below c, s .pre .0)
 
 taints-after-requires : tie.Need-taints-after-requires
-taints-after-requires c κs =
-    let s = c .before .before .before .before .before .before .before in
-    let e = meant-by (s .args .action) (c .enum-told .given .1) in
-    (s .pre .ready .registerTaints, register-named (core s) (s .args .storage-addr) (meant (s .args .action)) (s .pre) _ _ _ _ e)
+taints-after-requires c κs = let s = start (c .before .before .before) in (s .pre .1 .1 .ready .registerTaints, register-below (c .before))
 
 enum-told-2 : tie.Need-enum-told-2
 enum-told-2 c = search needs
 
-store-requires : tie.Need-store-requires
-store-requires c κs =
-    let s = c .before .before .before .before .before .before .before .before .before .before in
-    let e = meant-by (s .args .action) (c .before .before .before .enum-told2 .given .1) in
-    store-asks (core s) (s .args .storage-addr) (meant (s .args .action)) (s .pre) _ _ _ _ e
+write-at-requires : tie.Need-write-at-requires
+write-at-requires c κs =
+    let t = c .before .before in
+    let s = start (t .before .before) in
+    let f = placed-by _ (s .args .action) (t .enum-told2 .given .1) (s .pre .1 .0) in
+    write-asks (core 0 s) (s .args .storage-addr) (effect s) (can 0 s) _ _ f
 
 enum-told-3 : tie.Need-enum-told-3
 enum-told-3 c = search needs
 
+insert-requires : tie.Need-insert-requires
+insert-requires c κs =
+    let t = c .before .before .before in
+    let s = start (t .before .before) in
+    let e = meant-by (s .args .taint) (s .args .action) (t .enum-told3 .given .1) in
+    let f = placed-by _ (s .args .action) (t .enum-told3 .given .1) (s .pre .1 .0) in
+    insert-asks (core 0 s) (s .args .storage-addr) (effect s) (can 0 s) _ _ _ _ _ e f
+
+add-cells : tie.Need-add-cells
+add-cells c =
+    let t = c .before .before .before .before .before .before .before .before .before .before .before in
+    let s = start (t .before .before) in
+    let e = meant-by (s .args .taint) (s .args .action) (t .enum-told3 .given .1) in
+    let f = placed-by _ (s .args .action) (t .enum-told3 .given .1) (s .pre .1 .0) in
+    omega (arith, insert-asks (core 0 s) (s .args .storage-addr) (effect s) (can 0 s) _ _ _ _ _ e f .1 .0, s .good)
+
 enum-told-4 : tie.Need-enum-told-4
 enum-told-4 c = search needs
-
-load-tape-requires : tie.Need-load-tape-requires
-load-tape-requires c κs =
-    let s = c .before .before .before .before .before .before .before .before .before .before .before in
-    let e = meant-by (s .args .action) (c .before .before .before .before .enum-told4 .given .1) in
-    load-asks (core s) (s .args .storage-addr) (meant (s .args .action)) (s .pre) _ _ _ _ e
 
 enum-told-5 : tie.Need-enum-told-5
 enum-told-5 c = search needs
 
-append-numbers-requires : tie.Need-append-numbers-requires
-append-numbers-requires c κs =
-    let s = c .before .before .before .before .before .before .before .before .before in
-    let e = meant-by (s .args .action) (c .before .before .enum-told5 .given .1) in
-    tape-asks (core s) (s .args .storage-addr) (meant (s .args .action)) (s .pre) _ _ _ e
-
-append-numbers-requires-2 : tie.Need-append-numbers-requires-2
-append-numbers-requires-2 c κs =
-    let s = c .before .before .before .before .before .before .before .before .before .before .before .before .before .before in
-    let e = meant-by (s .args .action) (c .before .before .before .before .before .before .before .enum-told5 .given .1) in
-    output-asks (core s) (s .args .storage-addr) (meant (s .args .action)) (s .pre) _ _ _ e
-
-add-tape-count : tie.Need-add-tape-count
-add-tape-count c =
-    let s = c .before .before .before .before .before .before .before .before .before .before .before .before .before .before .before .before .before .before in
-    let e = meant-by (s .args .action) (c .before .before .before .before .before .before .before .before .before .before .before .enum-told5 .given .1) in
-    omega (arith, tape-asks (core s) (s .args .storage-addr) (meant (s .args .action)) (s .pre) _ _ _ e .1, s .good)
-
-add-output-count : tie.Need-add-output-count
-add-output-count c =
-    let s = c .before .before .before .before .before .before .before .before .before .before .before .before .before .before .before .before .before .before .before in
-    let e = meant-by (s .args .action) (c .before .before .before .before .before .before .before .before .before .before .before .before .enum-told5 .given .1) in
-    omega (arith, output-asks (core s) (s .args .storage-addr) (meant (s .args .action)) (s .pre) _ _ _ e .1, s .good)
+load-tape-requires : tie.Need-load-tape-requires
+load-tape-requires c κs =
+    let t = c .before .before .before .before in
+    let s = start (t .before .before) in
+    let e = meant-by (s .args .taint) (s .args .action) (t .enum-told5 .given .1) in
+    load-asks (core 0 s) (s .args .storage-addr) (effect s) (can 0 s) _ _ _ _ e
 
 enum-told-6 : tie.Need-enum-told-6
 enum-told-6 c = search needs
 
-call-contract-requires : tie.Need-call-contract-requires
-call-contract-requires c κs =
-    let s = c .before .before .before .before .before .before .before .before .before in
-    let e = meant-by (s .args .action) (c .before .before .enum-told6 .given .1) in
-    call-asks (core s) (s .args .storage-addr) (meant (s .args .action)) (s .pre) _ _ _ e
+append-numbers-requires : tie.Need-append-numbers-requires
+append-numbers-requires c κs =
+    let t = c .before .before in
+    let s = start (t .before .before) in
+    let e = meant-by (s .args .taint) (s .args .action) (t .enum-told6 .given .1) in
+    tape-asks (core 0 s) (s .args .storage-addr) (effect s) (can 0 s) _ _ _ e
 
-add-tape-count-2 : tie.Need-add-tape-count-2
-add-tape-count-2 c =
-    let s = c .before .before .before .before .before .before .before .before .before .before .before .before .before in
-    let e = meant-by (s .args .action) (c .before .before .before .before .before .before .enum-told6 .given .1) in
-    omega (arith, call-asks (core s) (s .args .storage-addr) (meant (s .args .action)) (s .pre) _ _ _ e .1, s .good)
+append-numbers-requires-2 : tie.Need-append-numbers-requires-2
+append-numbers-requires-2 c κs =
+    let t = c .before .before .before .before .before .before .before in
+    let s = start (t .before .before) in
+    let e = meant-by (s .args .taint) (s .args .action) (t .enum-told6 .given .1) in
+    output-asks (core 0 s) (s .args .storage-addr) (effect s) (can 0 s) _ _ _ e
+
+add-tape-count : tie.Need-add-tape-count
+add-tape-count c =
+    let t = c .before .before .before .before .before .before .before .before .before .before .before in
+    let s = start (t .before .before) in
+    let e = meant-by (s .args .taint) (s .args .action) (t .enum-told6 .given .1) in
+    omega (arith, tape-asks (core 0 s) (s .args .storage-addr) (effect s) (can 0 s) _ _ _ e .1, s .good)
+
+add-output-count : tie.Need-add-output-count
+add-output-count c =
+    let t = c .before .before .before .before .before .before .before .before .before .before .before .before in
+    let s = start (t .before .before) in
+    let e = meant-by (s .args .taint) (s .args .action) (t .enum-told6 .given .1) in
+    omega (arith, output-asks (core 0 s) (s .args .storage-addr) (effect s) (can 0 s) _ _ _ e .1, s .good)
 
 enum-told-7 : tie.Need-enum-told-7
 enum-told-7 c = search needs
 
-enum-known-kind : tie.Need-enum-known-kind
-enum-known-kind c = search needs
+call-contract-requires : tie.Need-call-contract-requires
+call-contract-requires c κs =
+    let t = c .before .before in
+    let s = start (t .before .before) in
+    let e = meant-by (s .args .taint) (s .args .action) (t .enum-told7 .given .1) in
+    call-asks (core 0 s) (s .args .storage-addr) (effect s) (can 0 s) _ _ _ e
+
+add-tape-count-2 : tie.Need-add-tape-count-2
+add-tape-count-2 c =
+    let t = c .before .before .before .before .before .before in
+    let s = start (t .before .before) in
+    let e = meant-by (s .args .taint) (s .args .action) (t .enum-told7 .given .1) in
+    omega (arith, call-asks (core 0 s) (s .args .storage-addr) (effect s) (can 0 s) _ _ _ e .1, s .good)
 
 enum-told-8 : tie.Need-enum-told-8
 enum-told-8 c = search needs
 
-returns : tie.Need-returns
-returns c =
-    let s = c .before .before .before .before .before .before .before .before in
-    let e = meant-by (s .args .action) (c .before .enum-told .given .1) in
-    sets-register (core s) (s .args .storage-addr) (meant (s .args .action)) (s .pre) _ _ _ _ _ e (c .taints-after .ensures)
+enum-known-kind : tie.Need-enum-known-kind
+enum-known-kind c = search needs
+
+enum-told-9 : tie.Need-enum-told-9
+enum-told-9 c = search needs
 
 same-length : tie.Need-same-length
 same-length c = search needs
+
+returns : tie.Need-returns
+returns c =
+    let t = c .before .before in
+    let s = start (t .before .before) in
+    let e = meant-by (s .args .taint) (s .args .action) (t .enum-told .given .1) in
+    let r = register-below t in
+    let g = take-set-lt 10 (s .args .values .now) _ _ r in (
+      λ clk. sets-register (core clk s) (s .args .storage-addr) (effect s) (can clk s) _ _ _ _ _ _ e g (c .taints-after .ensures),
+      (length-set (s .args .values .now) _ _, drop-set-lt 10 (s .args .values .now) _ _ r),
+    )
 
 same-length-2 : tie.Need-same-length-2
 same-length-2 c = search needs
@@ -135,15 +184,12 @@ same-length-3 c = search needs
 
 returns-2 : tie.Need-returns-2
 returns-2 c =
-    let s = c .before .before .before .before .before .before .before .before .before .before .before .before .before .before .before .before .before in
-    let e = meant-by (s .args .action) (c .before .before .before .before .before .before .before .before .before .before .enum-told2 .given .1) in
-    stores-cell (core s) (s .args .storage-addr) (meant (s .args .action)) (s .pre) _ _ _ _ _ _ _ _ e (c .before .before .before .before .before .before .store .ensures)
-
-returns-3 : tie.Need-returns-3
-returns-3 c =
-    let s = c .before .before .before .before .before .before .before in
-    let e = meant-by (s .args .action) (c .enum-told3 .given .1) in
-    jumps (core s) (s .args .storage-addr) (meant (s .args .action)) (s .pre) _ e
+    let t = c .before .before .before .before .before .before .before in
+    let s = start (t .before .before) in
+    let e = meant-by (s .args .taint) (s .args .action) (t .enum-told2 .given .1) in
+    let f = placed-by _ (s .args .action) (t .enum-told2 .given .1) (s .pre .1 .0) in
+    let w = c .before .before .before .before .write-at .ensures in
+    (λ clk. writes-cell (core clk s) (s .args .storage-addr) (effect s) (can clk s) _ _ _ _ _ _ _ e f (w .0) (w .1), (refl, refl))
 
 same-length-4 : tie.Need-same-length-4
 same-length-4 c = search needs
@@ -154,14 +200,22 @@ same-length-5 c = search needs
 same-length-6 : tie.Need-same-length-6
 same-length-6 c = search needs
 
-same-length-7 : tie.Need-same-length-7
-same-length-7 c = search needs
+returns-3 : tie.Need-returns-3
+returns-3 c =
+    let t = c .before .before .before .before .before .before .before .before .before .before .before in
+    let s = start (t .before .before) in
+    let e = meant-by (s .args .taint) (s .args .action) (t .enum-told3 .given .1) in
+    let w = c .before .before .before .before .before .before .before .insert .ensures in
+    (λ clk. stores-cell (core clk s) (s .args .storage-addr) (effect s) (can clk s) _ _ _ _ _ _ _ _ e w, (refl, refl))
 
 returns-4 : tie.Need-returns-4
 returns-4 c =
-    let s = c .before .before .before .before .before .before .before .before .before .before .before .before .before .before .before .before .before .before in
-    let e = meant-by (s .args .action) (c .before .before .before .before .before .before .before .before .before .before .before .enum-told4 .given .1) in
-    loads-tape (core s) (s .args .storage-addr) (meant (s .args .action)) (s .pre) _ _ _ _ _ _ _ _ e (c .before .before .before .before .before .before .load-tape .ensures)
+    let s = start (c .before .before) in
+    let e = meant-by (s .args .taint) (s .args .action) (c .enum-told4 .given .1) in
+    (λ clk. jumps (core clk s) (s .args .storage-addr) (effect s) (can clk s) _ e, (refl, refl))
+
+same-length-7 : tie.Need-same-length-7
+same-length-7 c = search needs
 
 same-length-8 : tie.Need-same-length-8
 same-length-8 c = search needs
@@ -174,9 +228,11 @@ same-length-10 c = search needs
 
 returns-5 : tie.Need-returns-5
 returns-5 c =
-    let s = c .before .before .before .before .before .before .before .before .before .before .before .before .before .before .before .before .before .before .before in
-    let e = meant-by (s .args .action) (c .before .before .before .before .before .before .before .before .before .before .before .before .enum-told5 .given .1) in
-    stores-tape (core s) (s .args .storage-addr) (meant (s .args .action)) (s .pre) _ _ _ _ _ e (c .before .before .before .before .before .before .before .before .before .append-numbers .ensures) (c .before .before .before .before .append-numbers2 .ensures)
+    let t = c .before .before .before .before .before .before .before .before .before .before .before in
+    let s = start (t .before .before) in
+    let e = meant-by (s .args .taint) (s .args .action) (t .enum-told5 .given .1) in
+    let w = c .before .before .before .before .before .before .load-tape .ensures in
+    (λ clk. loads-tape (core clk s) (s .args .storage-addr) (effect s) (can clk s) _ _ _ _ _ _ _ _ e w, (refl, refl))
 
 same-length-11 : tie.Need-same-length-11
 same-length-11 c = search needs
@@ -184,74 +240,100 @@ same-length-11 c = search needs
 same-length-12 : tie.Need-same-length-12
 same-length-12 c = search needs
 
+same-length-13 : tie.Need-same-length-13
+same-length-13 c = search needs
+
 returns-6 : tie.Need-returns-6
 returns-6 c =
-    let s = c .before .before .before .before .before .before .before .before .before .before .before .before .before in
-    let e = meant-by (s .args .action) (c .before .before .before .before .before .before .enum-told6 .given .1) in
-    let four : length (s .args .storage-addr) ≡ 4 = search needs in
-    calls-contract (core s) (s .args .storage-addr) (meant (s .args .action)) (s .pre) four _ _ _ _ _ e (c .before .before .before .call-contract .ensures .0) (c .before .before .before .call-contract .ensures .1)
+    let t = c .before .before .before .before .before .before .before .before .before .before .before .before in
+    let s = start (t .before .before) in
+    let e = meant-by (s .args .taint) (s .args .action) (t .enum-told6 .given .1) in
+    let w = c .before .before .before .before .before .before .before .before .before .append-numbers .ensures in
+    let o = c .before .before .before .before .append-numbers2 .ensures in
+    (λ clk. stores-tape (core clk s) (s .args .storage-addr) (effect s) (can clk s) _ _ _ _ _ e w o, (refl, refl))
+
+same-length-14 : tie.Need-same-length-14
+same-length-14 c = search needs
+
+same-length-15 : tie.Need-same-length-15
+same-length-15 c = search needs
 
 returns-7 : tie.Need-returns-7
 returns-7 c =
-    let s = c .before .before .before .before .before .before .before in
-    let e = meant-by (s .args .action) (c .enum-told7 .given .1) in
-    ends-run (core s) (s .args .storage-addr) (meant (s .args .action)) (s .pre) _ e
+    let t = c .before .before .before .before .before .before in
+    let s = start (t .before .before) in
+    let e = meant-by (s .args .taint) (s .args .action) (t .enum-told7 .given .1) in
+    let w = c .before .before .before .call-contract .ensures in
+    (λ clk. calls-contract (core clk s) (s .args .storage-addr) (effect s) (can clk s) (four s) _ _ _ _ _ e (w .0) (w .1), (refl, refl))
 
 returns-8 : tie.Need-returns-8
 returns-8 c =
-    let s = c .before .before .before .before .before .before .before .before in
-    let e = meant-by (s .args .action) (c .before .kind .given .1) in
-    refuses-step (core s) (s .args .storage-addr) (meant (s .args .action)) (s .pre) _ e
+    let s = start (c .before .before) in
+    let e = meant-by (s .args .taint) (s .args .action) (c .enum-told8 .given .1) in
+    (λ clk. ends-run (core clk s) (s .args .storage-addr) (effect s) (can clk s) _ e, (refl, refl))
 
 returns-9 : tie.Need-returns-9
 returns-9 c =
-    let s = c .before .before .before .before .before .before .before in
-    let e = meant-by (s .args .action) (c .enum-told8 .given .1) in
-    sinks (core s) (s .args .storage-addr) (meant (s .args .action)) (s .pre) e
+    let t = c .before in
+    let s = start (t .before .before) in
+    let e = meant-by (s .args .taint) (s .args .action) (t .kind .given .1) in
+    (λ clk. refuses-step (core clk s) (s .args .storage-addr) (effect s) (can clk s) _ e, (refl, refl))
+
+returns-10 : tie.Need-returns-10
+returns-10 c =
+    let s = start (c .before .before) in
+    let e = meant-by (s .args .taint) (s .args .action) (c .enum-told9 .given .1) in
+    (λ clk. sinks (core clk s) (s .args .storage-addr) (effect s) (can clk s) e, (refl, refl))
 
 pub carry-out-spec : {M : Type 1} → statement M
 carry-out-spec =
     tie.close
     (tie.spec
-    add-next-clk
     enum-told
-    mul-registers
-    element-write-registers
+    mul-values
+    slice-write-values
     taints-after-requires
     enum-told-2
-    store-requires
+    write-at-requires
     enum-told-3
+    insert-requires
+    add-cells
     enum-told-4
-    load-tape-requires
     enum-told-5
+    load-tape-requires
+    enum-told-6
     append-numbers-requires
     append-numbers-requires-2
     add-tape-count
     add-output-count
-    enum-told-6
+    enum-told-7
     call-contract-requires
     add-tape-count-2
-    enum-told-7
-    enum-known-kind
     enum-told-8
-    returns
+    enum-known-kind
+    enum-told-9
     same-length
+    returns
     same-length-2
     same-length-3
     returns-2
-    returns-3
     same-length-4
     same-length-5
     same-length-6
-    same-length-7
+    returns-3
     returns-4
+    same-length-7
     same-length-8
     same-length-9
     same-length-10
     returns-5
     same-length-11
     same-length-12
+    same-length-13
     returns-6
+    same-length-14
+    same-length-15
     returns-7
     returns-8
-    returns-9)
+    returns-9
+    returns-10)
