@@ -21,6 +21,7 @@ pub struct Line {
 
 pub const BLUE: &str = "#1f6fb4";
 pub const ORANGE: &str = "#c8581b";
+pub const RED: &str = "#a3254d";
 pub const GREEN: &str = "#2a8a4a";
 const GREY: &str = "#444444";
 

@@ -11,7 +11,7 @@ use oracle::state::State;
 use oracle::stepper::{Mode, Stepper};
 use Operand::{Absent, Immediate, Register};
 
-use crate::chart::{Line, Panel, BLUE, GREEN, ORANGE};
+use crate::chart::{Line, Panel, BLUE, GREEN, ORANGE, RED};
 use crate::contenders::{Calls, PLAIN, TAINTED, YARDSTICK};
 use crate::entry;
 use crate::lent::lent;
@@ -139,6 +139,7 @@ fn step_by_values() -> Panel {
         x_name: "n",
         lines: [
             beside_yardstick("TLOAD of n", ORANGE, &VALUES, |n| tape_loads(n, n)),
+            beside_yardstick("TLOAD of n new cells", RED, &VALUES, new_tape_cells),
             beside_yardstick("TSTORE of n", BLUE, &VALUES, tape_stores),
             beside_yardstick("TLOAD of 16, tape of n", GREEN, &TAPES, |n| {
                 tape_loads(16, n)
@@ -265,6 +266,16 @@ fn tape_loads(values: u64, tape: u64) -> Calls {
         ..State::default()
     };
     looped(vec![load; 15], start, STEPS.min(LOADED_VALUES / values))
+}
+
+/// TLOAD of a tape's last values to cells that are not present.
+fn new_tape_cells(values: u64) -> Calls {
+    let load = frame(TLOAD, Immediate(1), Immediate(values), Immediate(0));
+    let start = State {
+        tape: (0..values).collect(),
+        ..State::default()
+    };
+    once(&[load], start, 1)
 }
 
 /// TSTORE, as often as the greatest tape allows.

@@ -5,6 +5,7 @@ mod chart;
 mod contenders;
 mod entry;
 mod growth;
+mod instructions;
 mod interface;
 mod lent;
 mod programs;
@@ -24,13 +25,22 @@ use before::Before;
 const HELP: &str = "\
 usage: bench [--only PART] [--plot FILE] [--before FILE]
 
-  --only PART    only one of the parts: steps, entry, text, interface, growth, stack
+  --only PART    only one of the parts: steps, instructions, entry, text, interface, growth, stack; instructions, which need valgrind,
+                 are counted only where this asks for them
   --plot FILE    writes the part growth into FILE too, as a picture (SVG)
   --before FILE  an older build of the library, as a shared object: the part text measures it beside the present one
   --help         prints this
 ";
 
-const PARTS: [&str; 6] = ["steps", "entry", "text", "interface", "growth", "stack"];
+const PARTS: [&str; 7] = [
+    "steps",
+    "instructions",
+    "entry",
+    "text",
+    "interface",
+    "growth",
+    "stack",
+];
 
 struct Options {
     only: Option<String>,
@@ -78,6 +88,12 @@ fn measure(options: &Options) -> Result<(), String> {
     if wanted("steps") {
         println!("## Steps\n\nNanoseconds a step.\n\n{}", steps::table());
     }
+    if options.only.as_deref() == Some("instructions") {
+        println!(
+            "## Instructions\n\nInstructions a step.\n\n{}",
+            instructions::table()?
+        );
+    }
     if wanted("entry") {
         println!(
             "## Entry\n\nNanoseconds a call with budget 1.\n\n{}",
@@ -110,14 +126,24 @@ fn measure(options: &Options) -> Result<(), String> {
 }
 
 fn main() -> ExitCode {
-    let measured = match options() {
+    let arguments: Vec<String> = args().skip(1).collect();
+    if arguments
+        .first()
+        .is_some_and(|first| first == instructions::COUNTED)
+    {
+        return ended(instructions::run(&arguments[1..]));
+    }
+    ended(match options() {
         Ok(Some(options)) => measure(&options),
         Ok(None) => {
             print!("{HELP}");
             Ok(())
         }
         Err(wrong) => Err(format!("{wrong}\n{HELP}")),
-    };
+    })
+}
+
+fn ended(measured: Result<(), String>) -> ExitCode {
     match measured {
         Ok(()) => ExitCode::SUCCESS,
         Err(wrong) => {

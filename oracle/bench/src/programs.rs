@@ -14,8 +14,9 @@ pub struct Workload {
     /// Taints that meet no sink: a bit for each register, and every cell or none.
     pub tainted_registers: u64,
     pub tainted_cells: bool,
-    /// How many times as fast as `resume` the plain run has to be.
+    /// How many times as fast as `resume` the plain run has to be, and how many times as slow as the yardstick it may be.
     pub wanted_speedup: f64,
+    pub most_of_yardstick: f64,
 }
 
 const MEMORY_CELLS: u64 = 1024;
@@ -39,7 +40,12 @@ pub fn rows() -> Vec<Vec<Workload>> {
     ]
 }
 
-fn workload(name: &'static str, wanted_speedup: f64, program: Vec<Frame>) -> Workload {
+fn workload(
+    name: &'static str,
+    wanted_speedup: f64,
+    most_of_yardstick: f64,
+    program: Vec<Frame>,
+) -> Workload {
     Workload {
         name,
         program,
@@ -47,6 +53,7 @@ fn workload(name: &'static str, wanted_speedup: f64, program: Vec<Frame>) -> Wor
         tainted_registers: 0,
         tainted_cells: false,
         wanted_speedup,
+        most_of_yardstick,
     }
 }
 
@@ -55,7 +62,8 @@ pub fn arithmetic() -> Workload {
         tainted_registers: 1 << 2,
         ..workload(
             "arithmetic",
-            25.0,
+            45.0,
+            1.2,
             vec![
                 frame(ADD, Register(1), Immediate(1), Register(1)),
                 frame(MUL, Register(2), Register(1), Register(2)),
@@ -71,7 +79,8 @@ fn bitwise() -> Workload {
         tainted_registers: 1 << 4,
         ..workload(
             "bitwise",
-            25.0,
+            45.0,
+            1.3,
             vec![
                 frame(XOR, Register(1), Immediate(0x5555), Register(1)),
                 frame(AND, Register(1), Immediate(0xFF_FFFF), Register(2)),
@@ -88,7 +97,8 @@ fn bitwise() -> Workload {
 fn memory() -> Workload {
     let mut memory = workload(
         "memory",
-        25.0,
+        45.0,
+        1.2,
         vec![
             frame(MSTORE, Register(1), Immediate(0), Register(2)),
             frame(MLOAD, Register(1), Immediate(0), Register(3)),
@@ -108,7 +118,8 @@ fn memory() -> Workload {
 fn call() -> Workload {
     let mut call = workload(
         "call",
-        25.0,
+        45.0,
+        1.2,
         vec![
             frame(CALL, Absent, Immediate(4), Absent),
             jump(0),
@@ -124,7 +135,8 @@ fn call() -> Workload {
 fn tape_load() -> Workload {
     let mut load = workload(
         "TLOAD of 16",
-        15.0,
+        25.0,
+        1.2,
         vec![
             frame(TLOAD, Immediate(1), Immediate(16), Immediate(1000)),
             jump(0),
@@ -138,7 +150,8 @@ fn tape_load() -> Workload {
 fn sparse() -> Workload {
     let mut sparse = workload(
         "sparse",
-        15.0,
+        25.0,
+        1.3,
         vec![
             frame(ADD, Register(1), Immediate(389), Register(1)),
             frame(AND, Register(1), Immediate(MEMORY_CELLS - 1), Register(1)),
@@ -173,7 +186,7 @@ fn generated() -> Vec<Workload> {
     let mut random = SplitMix64::new(SEED);
     (0..GENERATED)
         .map(|_| {
-            let mut mix = workload("generated", 15.0, generated_program(&mut random));
+            let mut mix = workload("generated", 25.0, 1.3, generated_program(&mut random));
             mix.start.registers = [3, 5, 7, 11, 13, 17, 19, 23, 29, 250];
             mix.start.cells = (0..256).map(|address| (address, address)).collect();
             mix.start.cells.insert(248, 250);
