@@ -1,8 +1,8 @@
 /* The Ola step machine, proved: its interface for C and for whatever can call C.
  *
  * Link with libcapi.a, for x86-64, which `rt staticlib capi` writes to target/staticlib. The library allocates nothing, keeps nothing between
- * calls, reads and writes nothing but what it is lent, and uses at most 32 KB of stack. Calls on different records and buffers may run at the
- * same time.
+ * calls, reads and writes nothing but what it is lent, and uses at most 56 KB of stack, 40 KB where a program is given as words. Calls on
+ * different records and buffers may run at the same time.
  *
  *     cc -Iinclude solve.c target/staticlib/libcapi.a
  *
