@@ -5,10 +5,11 @@ use mathlib.Core.Bool.{Bool, true, false}
 use mathlib.Core.List.{List, [], _∷_, _++_}
 use native.Mathlib.Numerals.{add-one}
 use native.Mathlib.Omega.{arith}
-use lib.Dec.{leb, eqb}
+use lib.Dec.{leb, ltb, eqb}
 use lib.ListN.{length, getD, set, take, drop}
 use lib.Seq.{length-take-le, getD-take, split-at, set-split}
 use borrow.Author.Tests.{leb-true, leb-false, le-leb, lt-leb}
+use mir.Val.{boolByte}
 use Rattle.rules.specs.Numbers.{choose, bit}
 use Rattle.rules.specs.Memory.{absent, present}
 use Rattle.rules.specs.Cells.{get, put, addresses, contents}
@@ -18,9 +19,9 @@ use Rattle.rules.proofs.CellLaws.{length-addresses, addresses-zipped, contents-
 use Rattle.hardware.specs.declared.cells.Found.the-variants as Found
 use Rattle.hardware.specs.declared.cells.Cell.the-variants as Cell
 use Rattle.hardware.specs.declared.cells.Span.the-variants as Span
-use Rattle.hardware.specs.Buffers.{rank, has, foundOf, hasAll, spanOf, missing, cellsOf, cellOf, putMany, Rising, Ordered, Holding}
+use Rattle.hardware.specs.Buffers.{rank, lastAtMost, has, foundOf, hasAll, spanOf, missing, cellsOf, cellOf, putMany, Rising, Ordered, Holding}
 use Rattle.hardware.specs.Places.{insertAt, consecutive, spliced}
-use Rattle.hardware.proofs.RankLaws.{rank-length, rank-mono, rank-next, has-at, has-rank, has-none, last-there, there-last, missing-ranks, missing-most}
+use Rattle.hardware.proofs.RankLaws.{rank-length, rank-mono, rank-next, rank-here, has-at, has-rank, has-none, last-other, last-rank, last-none, last-there, there-last, missing-ranks, missing-most}
 use Rattle.hardware.proofs.SpanLaws.{absent-get, present-get}
 use Rattle.hardware.proofs.SpliceLaws.{spliced-many}
 use Rattle.hardware.proofs.PlaceLaws.{insert-spliced, found-at, found-absent, found-below}
@@ -84,6 +85,25 @@ module _ (n : ℕ) (xs : List ℕ) (o : Rising n xs) (a i : ℕ) (e : i ≡ rank
       let u : length (take n xs) ≡ n = used in
       rw (subst (λ (m : ℕ). hasAll (take n xs) a m ≡ true) s (last-there (take n xs) a (m - 1) (i + (m - 1)) (o .rises) (omega arith) (omega arith) (getD-take n xs (i + (m - 1)) 0 k ∙ g)))
       (ap Span.At e)
+
+-- an address that stands at a place is found there
+pub found-here : (n : ℕ) (xs : List ℕ) → Rising n xs → (a i : ℕ) → i < n → getD xs i 0 ≡ a → Found.At i ≡ foundOf (take n xs) a
+found-here n xs o a i h e =
+    let r : i ≡ rank (take n xs) a = sym (rank-here (take n xs) a i (o .rises) (rw (length-take-le n xs (o .within)) h) (getD-take n xs i 0 h ∙ e)) in
+    found-present n xs o a i r h e
+
+-- one that is not the last that is at most it is absent
+module _ (n : ℕ) (xs : List ℕ) (o : Rising n xs) (a i : ℕ) (e : i ≡ lastAtMost (take n xs) a) where
+  pub found-behind : i < n → (getD xs i 0 ≡ a → ⊥) → Found.Absent (i + boolByte (ltb (getD xs i 0) a)) ≡ foundOf (take n xs) a
+  found-behind h f =
+      let u : length (take n xs) ≡ n = length-take-le n xs (o .within) in
+      let g : getD (take n xs) i 0 ≡ getD xs i 0 = getD-take n xs i 0 h in
+      rw (← g, last-other (take n xs) a i (o .rises) e (λ q. f (sym g ∙ q))) (ap Found.Absent (last-rank (take n xs) a i (o .rises) e (omega arith)))
+
+  pub found-none : n ≤ i → Found.Absent i ≡ foundOf (take n xs) a
+  found-none h =
+      let u : length (take n xs) ≡ n = length-take-le n xs (o .within) in
+      found-end n xs o a i (last-none (take n xs) a i (o .rises) e (omega arith)) h
 
 -- what it says of a span that it is found
 pub span-at : (l : List ℕ) (a n i : ℕ) → spanOf l a n ≡ Span.At i → (hasAll l a n ≡ true) × (i ≡ rank l a)

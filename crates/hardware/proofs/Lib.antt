@@ -1,6 +1,6 @@
 -- What the functions' proofs have in common, and for the crates above the laws of cells in buffers.
 pub mod RankLaws
-pub mod QuarterLaws
+pub mod EighthLaws
 pub mod SpanLaws
 pub mod StoreLaws
 pub mod SpliceLaws

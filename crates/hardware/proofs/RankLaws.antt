@@ -6,11 +6,12 @@ use mathlib.Core.List.{List, [], _∷_}
 use native.Mathlib.Omega.{arith}
 use lib.Dec.{ltb, leb, eqb}
 use lib.ListN.{length, getD}
-use borrow.Author.Tests.{lt-ltb, le-ltb, ltb-true, ltb-false, leb-true, eq-eqb, ne-eqb, eqb-true, eqb-false}
+use borrow.Author.Tests.{lt-ltb, le-ltb, ltb-true, ltb-false, leb-true, leb-false, eq-eqb, ne-eqb, eqb-true, eqb-false}
+use mir.Val.{boolByte}
 use Rattle.rules.specs.Numbers.{heapEnd, choose}
 use Rattle.rules.specs.Entry.{risingFrom}
 use Rattle.rules.proofs.BoolLaws.{false-true, and-left, and-right, and-true, or-second}
-use Rattle.hardware.specs.Buffers.{rank, has, hasAll, missing}
+use Rattle.hardware.specs.Buffers.{rank, lastAtMost, has, hasAll, missing}
 
 -- Rising lists
 
@@ -81,13 +82,13 @@ rank-at (b ∷ l) a h = go (rank-at l a) (ltb b a) refl h
     go k true e h = k (omega arith)
     go k false e h = ltb-false b a e
 
--- an address stands below another where its place lies before the other's rank
-pub below-rank : (l : List ℕ) (a i : ℕ) → risingFrom 0 l ≡ true → i < length l → ltb (getD l i 0) a ≡ ltb i (rank l a)
-below-rank l a i r h = go (ltb (getD l i 0) a) refl
+-- an address is at most another where its place lies before the rank of the next
+pub at-most-rank : (l : List ℕ) (a i : ℕ) → risingFrom 0 l ≡ true → i < length l → leb (getD l i 0) a ≡ ltb i (rank l (suc a))
+at-most-rank l a i r h = go (leb (getD l i 0) a) refl
   where
-    go : (t : Bool) → ltb (getD l i 0) a ≡ t → t ≡ ltb i (rank l a)
-    go true e = sym (lt-ltb i (rank l a) (rank-gt 0 l a i r h (ltb-true (getD l i 0) a e)))
-    go false e = sym (le-ltb i (rank l a) (rank-le l a i (ltb-false (getD l i 0) a e)))
+    go : (t : Bool) → leb (getD l i 0) a ≡ t → t ≡ ltb i (rank l (suc a))
+    go true e = let k : getD l i 0 ≤ a = leb-true _ _ e in sym (lt-ltb i _ (rank-gt 0 l (suc a) i r h (omega arith)))
+    go false e = sym (le-ltb i _ (rank-le l (suc a) i (leb-false _ _ e)))
 
 -- an address that stands at a place has this rank
 pub rank-here : (l : List ℕ) (a i : ℕ) → risingFrom 0 l ≡ true → i < length l → getD l i 0 ≡ a → rank l a ≡ i
@@ -154,6 +155,40 @@ rank-next n (b ∷ l) a r = go (rank-next (suc b) l a (rising-rest n b l r)) (lt
         let k : a ≤ b = ltb-false b a e in
         let m : b ≡ a → ⊥ = eqb-false b a f in
         rw (le-ltb b (suc a) (omega arith), has-below (suc b) l a (rising-rest n b l r) (omega arith))
+
+-- The place of the last that is at most an address
+
+pub byte-most : (t : Bool) → boolByte t ≤ 1
+byte-most true = omega arith
+byte-most false = omega arith
+
+-- the next address has the same rank or the next
+rank-near : (t : Bool) {n m : ℕ} → n ≡ choose t (suc m) m → (m ≤ n) × (n ≤ suc m)
+rank-near true e = omega arith
+rank-near false e = omega arith
+
+module _ (l : List ℕ) (a i : ℕ) (r : risingFrom 0 l ≡ true) (e : i ≡ lastAtMost l a) where
+  -- an address that does not stand at this place is not there
+  pub last-other : (getD l i 0 ≡ a → ⊥) → has l a ≡ false
+  last-other f = go (has l a) refl
+    where
+      go : (t : Bool) → has l a ≡ t → t ≡ false
+      go true t =
+          let n : rank l (suc a) ≡ suc (rank l a) = rw t at (rank-next 0 l a r) in
+          let q : i ≡ rank l a = omega arith in
+          absurd (f (ap (λ (i : ℕ). getD l i 0) q ∙ has-rank 0 l a r t .1))
+      go false t = refl
+
+  -- the rank of an address is this place, or the next where a lower one stands here
+  pub last-rank : i < length l → i + boolByte (ltb (getD l i 0) a) ≡ rank l a
+  last-rank h = go (ltb (getD l i 0) a) refl
+    where
+      go : (t : Bool) → ltb (getD l i 0) a ≡ t → i + boolByte t ≡ rank l a
+      go true t = omega (arith, rank-near (has l a) (rank-next 0 l a r), rank-gt 0 l a i r h (ltb-true _ _ t))
+      go false t = omega (arith, rank-near (has l a) (rank-next 0 l a r), rank-le l a i (ltb-false _ _ t))
+
+  pub last-none : length l ≤ i → i ≡ rank l a
+  last-none h = omega (arith, rank-length l (suc a), rank-length l a)
 
 -- A span
 

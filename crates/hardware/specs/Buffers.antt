@@ -1,5 +1,5 @@
 -- Cells in buffers.
-use Prim.Native.Nat.{ℕ, zero, suc, _≤_}
+use Prim.Native.Nat.{ℕ, zero, suc, _-_, _≤_}
 use mathlib.Core.Path.{_≡_}
 use mathlib.Core.Bool.{Bool, true, false, _&&_, _||_}
 use mathlib.Core.List.{List, [], _∷_}
@@ -25,6 +25,10 @@ use Rattle.hardware.specs.declared.cells.Span.the-variants as Span
 abbrev pub rank : List ℕ → ℕ → ℕ
 rank [] a = zero
 rank (b ∷ l) a = choose (ltb b a) (suc (rank l a)) zero
+
+-- the place of the last that is at most an address; 0 where none is
+abbrev pub lastAtMost : List ℕ → ℕ → ℕ
+lastAtMost l a = rank l (suc a) - 1
 
 -- is an address one of them?
 abbrev pub has : List ℕ → ℕ → Bool

@@ -4,7 +4,7 @@ use crate::tape;
 ghost use mathlib.Core.Path.{_≡_};
 ghost use mathlib.Core.Bool.{true};
 ghost use Prim.Native.Nat.{ℕ, _+_, _≤_, _<_};
-ghost use lib.Dec.{leb, ltb};
+ghost use lib.Dec.{leb};
 ghost use lib.ListN.{length, set, take, drop};
 ghost use Rattle.rules.specs.Numbers.{choose, bit, heapEnd, wordEnd};
 ghost use Rattle.rules.specs.Cells as Cells;
@@ -13,7 +13,7 @@ ghost use Rattle.rules.specs.Step.{overlay};
 ghost use Rattle.rules.specs.Taint.{cleanMany};
 ghost use Rattle.rules.specs.Entry.{risingFrom};
 ghost use Rattle.hardware.specs.declared.cells.Found.the-variants as Found;
-ghost use Rattle.hardware.specs.Buffers.{rank, foundOf, spanOf, missing, anyTaint, cellsOf, cellOf, putMany, Rising, Ordered, Holding};
+ghost use Rattle.hardware.specs.Buffers.{rank, lastAtMost, foundOf, spanOf, missing, anyTaint, cellsOf, cellOf, putMany, Rising, Ordered, Holding};
 ghost use Rattle.hardware.specs.Places.{insertAt, overwritten, zeros, consecutive, spliced, moved};
 
 // Where an address is, or where it would go.
@@ -50,51 +50,51 @@ fn place_without_gaps(used: &[u64], address: u64) -> usize {
     used.len()
 }
 
-// Does the address at a place lie below another? Behind the last there is none.
-fn is_below(used: &[u64], at: usize, address: u64) -> bool
+// The last of the rising addresses that is at most another, by its place; 0 where none is. Seven comparisons, added up, tell its eighth: a
+// branch on one of them could not be predicted. Called at two places and too long to be compiled into a step, which would be slower for it.
+fn last_at_most(used: &[u64], address: u64) -> usize
     requires { ⌜ risingFrom 0 (now used) ≡ true ⌝ }
-    ensures { λ r. ⌜ r ≡ ltb at (rank (now (used .entry)) address) ⌝ }
-{
-    if at < used.len() {
-        return used[at] < address;
-    }
-    false
-}
-
-// How many of the rising addresses lie below an address. Three comparisons, added up, tell its quarter: a branch on one of them could not
-// be predicted.
-fn rank_by_quarters(used: &[u64], address: u64) -> usize
-    requires { ⌜ risingFrom 0 (now used) ≡ true ⌝ }
-    ensures { λ r. ⌜ r ≡ rank (now (used .entry)) address ⌝ }
+    ensures { λ r. ⌜ r ≡ lastAtMost (now (used .entry)) address ⌝ }
 {
     let mut low = 0;
     let mut left = used.len();
-    while 0 < left {
-        let quarter = left / 4;
-        let first = low + quarter;
-        let second = first + 1 + quarter;
-        let third = second + 1 + quarter;
-        let below = is_below(used, first, address) as usize
-            + is_below(used, second, address) as usize
-            + is_below(used, third, address) as usize;
-        low += below * (quarter + 1);
-        left = quarter;
+    while 7 < left {
+        let eighth = left / 8;
+        let passed = (used[low + eighth] <= address) as usize
+            + (used[low + 2 * eighth] <= address) as usize
+            + (used[low + 3 * eighth] <= address) as usize
+            + (used[low + 4 * eighth] <= address) as usize
+            + (used[low + 5 * eighth] <= address) as usize
+            + (used[low + 6 * eighth] <= address) as usize
+            + (used[low + 7 * eighth] <= address) as usize;
+        low += passed * eighth;
+        left -= 7 * eighth;
     }
-    low
+    let mut last = low;
+    let mut i = 1;
+    while i < left {
+        last += (used[low + i] <= address) as usize;
+        i += 1;
+    }
+    last
 }
 
-// The same. An address that stands at its place without gaps needs no search.
+// How many of the rising addresses lie below an address. One that stands at its place without gaps needs no search.
 fn rank_of(used: &[u64], address: u64) -> usize
     requires { ⌜ risingFrom 0 (now used) ≡ true ⌝ }
     ensures { λ r. ⌜ r ≡ rank (now (used .entry)) address ⌝ }
 {
-    let at = place_without_gaps(used, address);
-    if at < used.len() {
-        if used[at] == address {
-            return at;
+    let near = place_without_gaps(used, address);
+    if near < used.len() {
+        if used[near] == address {
+            return near;
         }
     }
-    rank_by_quarters(used, address)
+    let last = last_at_most(used, address);
+    if last < used.len() {
+        return last + (used[last] < address) as usize;
+    }
+    last
 }
 
 // Where an address is, by a search.
@@ -102,14 +102,14 @@ fn search(addresses: &[u64], count: usize, address: u64) -> Found
     requires { ⌜ Rising count (now addresses) ⌝ }
     ensures { λ r. ⌜ r ≡ foundOf (take count (now (addresses .entry))) address ⌝ }
 {
-    let at = rank_by_quarters(&addresses[..count], address);
-    if at < count {
-        if addresses[at] == address {
-            return Found::At(at);
+    let last = last_at_most(&addresses[..count], address);
+    if last < count {
+        if addresses[last] == address {
+            return Found::At(last);
         }
-        return Found::Absent(at);
+        return Found::Absent(last + (addresses[last] < address) as usize);
     }
-    Found::Absent(at)
+    Found::Absent(last)
 }
 
 // The same. An address that stands at its place without gaps needs no search, and this is little enough code to be compiled into a step.

@@ -1,21 +1,10 @@
--- `hardware::cells::find` meets its contract: an address that stands at a place has this rank.
-use Prim.Native.Nat.{ℕ, _<_}
-use mathlib.Core.Path.{_≡_, sym, _∙_}
-use mathlib.Core.List.{List}
-use lib.ListN.{getD, take}
-use lib.Seq.{length-take-le, getD-take}
+-- `hardware::cells::find` meets its contract: an address that stands at a place is found there.
+use mathlib.Core.Path.{sym}
+use lib.Seq.{length-take-le}
 use borrow.Author.Needs.{needs}
-use Rattle.hardware.specs.declared.cells.Found.the-variants.{At}
-use Rattle.hardware.specs.Buffers.{rank, foundOf, Rising}
-use Rattle.hardware.proofs.BufferLaws.{found-present}
-use Rattle.hardware.proofs.RankLaws.{rank-here}
+use Rattle.hardware.proofs.BufferLaws.{found-here}
 use Rattle.hardware.proofs.cells.find.Statement.{statement}
 use Rattle.hardware.proofs.cells.find.Tie as tie
-
-here : (n : ℕ) (xs : List ℕ) → Rising n xs → (a i : ℕ) → i < n → getD xs i 0 ≡ a → At i ≡ foundOf (take n xs) a
-here n xs o a i h e =
-    let r : i ≡ rank (take n xs) a = sym (rank-here (take n xs) a i (o .rises) (rw (length-take-le n xs (o .within)) h) (getD-take n xs i 0 h ∙ e)) in
-    found-present n xs o a i r h e
 
 slice-aggregate-place-without-gaps : tie.Need-slice-aggregate-place-without-gaps
 slice-aggregate-place-without-gaps c = sym (length-take-le _ _ (c .before .before .pre .within))
@@ -32,7 +21,7 @@ shared-slice-read-if2 c = search needs
 returns : tie.Need-returns
 returns c =
     let s = c .before .before .before .before .before .before in
-    here (s .args .count) (s .args .addresses .now) (s .pre) (s .args .address) _ (c .before .before .if1 .taken) (c .if2 .taken)
+    found-here (s .args .count) (s .args .addresses .now) (s .pre) (s .args .address) _ (c .before .before .if1 .taken) (c .if2 .taken)
 
 search-requires : tie.Need-search-requires
 search-requires c κs = search needs
