@@ -1,10 +1,12 @@
 // ASSERT, RC and CJMP.
 use crate::Action;
 use crate::arithmetic;
+use program::table::Row;
 use rules::Refusal;
 ghost use mathlib.Core.List.{List};
-ghost use Prim.Native.Nat.{ℕ};
+ghost use Prim.Native.Nat.{ℕ, _+_, _≤_};
 ghost use lib.Dec.{leb, eqb};
+ghost use lib.ListN.{length, getD};
 ghost use Rattle.rules.specs.declared.Refusal.the-variants.{AssertFailed, RangeCheckFailed};
 ghost use Rattle.rules.specs.Numbers.{smallEnd};
 ghost use Rattle.rules.specs.Results.{pass};
@@ -31,9 +33,11 @@ pub fn check_range(a: u64, next: u64) -> Action
     Action::refuse(Refusal::RangeCheckFailed)
 }
 
-// CJMP. A tainted op1 stops it after op0's test.
-pub fn jump_where(taint: bool, a: u64, target: u64, next: u64) -> Action
-    ensures { λ r. ⌜ ((l : List ℕ) → Means l r (λ t. jumpsWhere a (pass target) taint next)) ⌝ }
+// CJMP. A tainted op1 stops it after op0's test. The next pc is read only where it goes on there, so that this is a branch, which can be
+// predicted: chosen without one, all that follows would wait for op0.
+pub fn jump_where(taint: bool, a: u64, target: u64, rows: &[u16], row: Row) -> Action
+    requires { ⌜ row .at + 8 ≤ length (now rows) ⌝ }
+    ensures { λ r. ⌜ ((l : List ℕ) → Means l r (λ t. jumpsWhere a (pass target) taint (getD (now (rows .entry)) (row .at + 5) 0))) ⌝ }
 {
     if 1 < a {
         return Action::refuse(Refusal::NotSmall);
@@ -44,5 +48,5 @@ pub fn jump_where(taint: bool, a: u64, target: u64, next: u64) -> Action
     if a == 1 {
         return Action::jump(target);
     }
-    Action::jump(next)
+    Action::jump(row.next(rows))
 }
