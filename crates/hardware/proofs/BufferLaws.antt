@@ -92,7 +92,7 @@ found-here n xs o a i h e =
     let r : i ≡ rank (take n xs) a = sym (rank-here (take n xs) a i (o .rises) (rw (length-take-le n xs (o .within)) h) (getD-take n xs i 0 h ∙ e)) in
     found-present n xs o a i r h e
 
--- one that is not the last that is at most it is absent
+-- where the last address that is at most a is not a, a is absent
 module _ (n : ℕ) (xs : List ℕ) (o : Rising n xs) (a i : ℕ) (e : i ≡ lastAtMost (take n xs) a) where
   pub found-behind : i < n → (getD xs i 0 ≡ a → ⊥) → Found.Absent (i + boolByte (ltb (getD xs i 0) a)) ≡ foundOf (take n xs) a
   found-behind h f =
