@@ -2,8 +2,8 @@
 // it is lent, and nothing else is touched.
 //
 // Public: `binary_program::{frame_length, decode, check_words}`.
-// Internal, for the crates above: `table::{load_words, row_at}`, the methods of `table::Row`, which tell a row's pc or take a number from it,
-// and `opcodes::opcode`, `operand_kinds::{value_words, register}`.
+// Internal, for the crates above: `table::{load_words, row_at}`, the methods of `table::Row`, which tell its pc or take a number from it, and
+// `opcodes::opcode`, `operand_kinds::{value_words, register}`.
 pub mod binary_program;
 pub mod opcodes;
 pub mod operand_kinds;
