@@ -8,7 +8,7 @@
  *
  * The machine has ten registers, a memory, a tape and an output. A call runs a program for at most `budget` steps: it checks all that it is
  * handed, runs, writes what is left into the same places, and fills in an answer. What a paused call leaves can be handed in again and goes on.
- * conformance/RULES.md says what each instruction does and in which order things are refused; it calls a taint a mark, and the tainted run the
+ * conformance/RULES.md says what each instruction does and in which order things are refused; it calls a mark a mark, and the guarded run the
  * guarded run.
  *
  * Example: a program as text, with its budget in the first line.
@@ -40,7 +40,7 @@ extern "C" {
 /* Limits. More is refused: OLA_BAD_LENGTH for a program, OLA_BAD_STATE for a state. */
 #define OLA_MOST_FRAMES 512          /* instructions of a program */
 #define OLA_MOST_BYTES 65536         /* of a program as text, with its budget line */
-#define OLA_MOST_CELLS 2048          /* elements of addresses, numbers and taints */
+#define OLA_MOST_CELLS 2048          /* elements of addresses, numbers and marks */
 #define OLA_MOST_VALUES 4096         /* elements of the tape, and of the output */
 #define OLA_CLOCK_END 1000000000000u /* clk is below it where a run starts */
 
@@ -51,7 +51,7 @@ typedef struct {
     uint64_t clk;             /* steps done so far; kilosteps are made from it */
     uint64_t psp;             /* what the operand PSP gives; never changed */
     uint64_t storage_addr[4]; /* the contract that runs, which calls others; never changed */
-    uint64_t cell_count;      /* how much of addresses, numbers and taints is used */
+    uint64_t cell_count;      /* how much of addresses, numbers and marks is used */
     uint64_t tape_count;      /* how much of the tape is used */
     uint64_t output_count;    /* how much of the output is used: what a program that ended hands back */
 } ola_machine;
@@ -81,7 +81,7 @@ enum {
 enum {
     OLA_BAD_LENGTH = 1,        /* no frame, more than 512, or more than 65,536 bytes of text */
     OLA_MALFORMED_FRAME = 2,   /* a frame or line is malformed; `frame` is the earliest that is */
-    OLA_BAD_STATE = 3,         /* clk, a count, a length, an address, a number or a taint is not fit */
+    OLA_BAD_STATE = 3,         /* clk, a count, a length, an address, a number or a mark is not fit */
     OLA_NO_INSTRUCTION = 4,    /* none starts at pc */
     OLA_UNCOVERED_OPCODE = 5,  /* POSEIDON, SLOAD, SSTORE, SIGCHECK, EVENT */
     OLA_BAD_OPERAND = 6,       /* absent, PC, or not of the form that the opcode wants */
@@ -96,7 +96,7 @@ enum {
     OLA_PROPHET_STORE = 15,    /* a store into the prophet region */
     OLA_NO_CAPACITY = 16,      /* the cells, the tape or the output are full */
     OLA_CLOCK_END_REACHED = 17, /* clk came to 10^12 */
-    OLA_TAINTED_SINK = 18      /* tainted runs only: a tainted number would decide something that can be seen */
+    OLA_MARKED_SINK = 18      /* guarded runs only: a marked number would decide something that can be seen */
 };
 
 /* What all calls below are handed.
@@ -108,9 +108,9 @@ enum {
  * The buffers, each with its length in elements; their first elements are the used ones, as many as the machine's counts say:
  * - addresses and numbers, of equal length: the present cells, in rising order of their addresses;
  * - tape, output.
- * A tainted run, which keeps numbers secret, has two more:
- * - register_taints: bit r is set where register r is tainted;
- * - taints, as long as addresses: 1 where the cell at the same place is tainted, else 0.
+ * A guarded run, which keeps numbers secret, has two more:
+ * - register_marks: bit r is set where register r is marked;
+ * - marks, as long as addresses: 1 where the cell at the same place is marked, else 0.
  */
 
 /* The plain run. */
@@ -127,22 +127,22 @@ void ola_run_budget_text(const uint8_t *text, size_t text_length, ola_machine *m
                          uint64_t *tape, size_t tape_length, uint64_t *output, size_t output_length,
                          ola_answer *answer);
 
-/* The tainted run: the plain run, which also keeps the taints and stops where a tainted number would be used at a sink. */
-void ola_tainted_run_words(const uint64_t *words, size_t words_length, uint64_t budget, ola_machine *machine,
-                           uint64_t *register_taints, uint64_t *addresses, size_t addresses_length,
-                           uint64_t *numbers, size_t numbers_length, uint64_t *taints, size_t taints_length,
+/* The guarded run: the plain run, which also keeps the marks and stops where a marked number would be used at a sink. */
+void ola_guarded_run_words(const uint64_t *words, size_t words_length, uint64_t budget, ola_machine *machine,
+                           uint64_t *register_marks, uint64_t *addresses, size_t addresses_length,
+                           uint64_t *numbers, size_t numbers_length, uint64_t *marks, size_t marks_length,
                            uint64_t *tape, size_t tape_length, uint64_t *output, size_t output_length,
                            ola_answer *answer);
 
-void ola_tainted_run_text(const uint8_t *text, size_t text_length, uint64_t budget, ola_machine *machine,
-                          uint64_t *register_taints, uint64_t *addresses, size_t addresses_length,
-                          uint64_t *numbers, size_t numbers_length, uint64_t *taints, size_t taints_length,
+void ola_guarded_run_text(const uint8_t *text, size_t text_length, uint64_t budget, ola_machine *machine,
+                          uint64_t *register_marks, uint64_t *addresses, size_t addresses_length,
+                          uint64_t *numbers, size_t numbers_length, uint64_t *marks, size_t marks_length,
                           uint64_t *tape, size_t tape_length, uint64_t *output, size_t output_length,
                           ola_answer *answer);
 
-void ola_tainted_run_budget_text(const uint8_t *text, size_t text_length, ola_machine *machine,
-                                 uint64_t *register_taints, uint64_t *addresses, size_t addresses_length,
-                                 uint64_t *numbers, size_t numbers_length, uint64_t *taints, size_t taints_length,
+void ola_guarded_run_budget_text(const uint8_t *text, size_t text_length, ola_machine *machine,
+                                 uint64_t *register_marks, uint64_t *addresses, size_t addresses_length,
+                                 uint64_t *numbers, size_t numbers_length, uint64_t *marks, size_t marks_length,
                                  uint64_t *tape, size_t tape_length, uint64_t *output, size_t output_length,
                                  ola_answer *answer);
 
@@ -151,9 +151,9 @@ void ola_step_words(const uint64_t *words, size_t words_length, ola_machine *mac
                     uint64_t *addresses, size_t addresses_length, uint64_t *numbers, size_t numbers_length,
                     uint64_t *tape, size_t tape_length, uint64_t *output, size_t output_length, ola_answer *answer);
 
-void ola_tainted_step_words(const uint64_t *words, size_t words_length, ola_machine *machine,
-                            uint64_t *register_taints, uint64_t *addresses, size_t addresses_length,
-                            uint64_t *numbers, size_t numbers_length, uint64_t *taints, size_t taints_length,
+void ola_guarded_step_words(const uint64_t *words, size_t words_length, ola_machine *machine,
+                            uint64_t *register_marks, uint64_t *addresses, size_t addresses_length,
+                            uint64_t *numbers, size_t numbers_length, uint64_t *marks, size_t marks_length,
                             uint64_t *tape, size_t tape_length, uint64_t *output, size_t output_length,
                             ola_answer *answer);
 
@@ -174,22 +174,22 @@ void ola_check_budget_text(const uint8_t *text, size_t text_length, const ola_ma
                            size_t numbers_length, const uint64_t *tape, size_t tape_length, const uint64_t *output,
                            size_t output_length, ola_answer *answer);
 
-void ola_tainted_check_words(const uint64_t *words, size_t words_length, const ola_machine *machine,
-                             uint64_t register_taints, const uint64_t *addresses, size_t addresses_length,
-                             const uint64_t *numbers, size_t numbers_length, const uint64_t *taints,
-                             size_t taints_length, const uint64_t *tape, size_t tape_length,
+void ola_guarded_check_words(const uint64_t *words, size_t words_length, const ola_machine *machine,
+                             uint64_t register_marks, const uint64_t *addresses, size_t addresses_length,
+                             const uint64_t *numbers, size_t numbers_length, const uint64_t *marks,
+                             size_t marks_length, const uint64_t *tape, size_t tape_length,
                              const uint64_t *output, size_t output_length, ola_answer *answer);
 
-void ola_tainted_check_text(const uint8_t *text, size_t text_length, const ola_machine *machine,
-                            uint64_t register_taints, const uint64_t *addresses, size_t addresses_length,
-                            const uint64_t *numbers, size_t numbers_length, const uint64_t *taints,
-                            size_t taints_length, const uint64_t *tape, size_t tape_length, const uint64_t *output,
+void ola_guarded_check_text(const uint8_t *text, size_t text_length, const ola_machine *machine,
+                            uint64_t register_marks, const uint64_t *addresses, size_t addresses_length,
+                            const uint64_t *numbers, size_t numbers_length, const uint64_t *marks,
+                            size_t marks_length, const uint64_t *tape, size_t tape_length, const uint64_t *output,
                             size_t output_length, ola_answer *answer);
 
-void ola_tainted_check_budget_text(const uint8_t *text, size_t text_length, const ola_machine *machine,
-                                   uint64_t register_taints, const uint64_t *addresses, size_t addresses_length,
-                                   const uint64_t *numbers, size_t numbers_length, const uint64_t *taints,
-                                   size_t taints_length, const uint64_t *tape, size_t tape_length,
+void ola_guarded_check_budget_text(const uint8_t *text, size_t text_length, const ola_machine *machine,
+                                   uint64_t register_marks, const uint64_t *addresses, size_t addresses_length,
+                                   const uint64_t *numbers, size_t numbers_length, const uint64_t *marks,
+                                   size_t marks_length, const uint64_t *tape, size_t tape_length,
                                    const uint64_t *output, size_t output_length, ola_answer *answer);
 
 /* The league's unit: clk / 1000, to the nearest, half to even, for every clk. 499 and 500 give 0, 1500 and 2500 give 2, 2501 gives 3. */

@@ -8,8 +8,8 @@
 /* All that a call is lent. */
 typedef struct {
     ola_machine machine;
-    uint64_t register_taints;
-    uint64_t addresses[OLA_MOST_CELLS], numbers[OLA_MOST_CELLS], taints[OLA_MOST_CELLS];
+    uint64_t register_marks;
+    uint64_t addresses[OLA_MOST_CELLS], numbers[OLA_MOST_CELLS], marks[OLA_MOST_CELLS];
     uint64_t tape[OLA_MOST_VALUES], output[OLA_MOST_VALUES];
 } lent;
 
@@ -94,12 +94,12 @@ static void with_a_secret(lent *l) {
     start(l);
     l->machine.registers[1] = 7;
     l->machine.registers[2] = 12345;
-    l->register_taints = 1 << 2;
-    ola_tainted_run_words(guessing, guessing_length, 100, &l->machine, &l->register_taints, l->addresses,
-                          OLA_MOST_CELLS, l->numbers, OLA_MOST_CELLS, l->taints, OLA_MOST_CELLS, l->tape,
+    l->register_marks = 1 << 2;
+    ola_guarded_run_words(guessing, guessing_length, 100, &l->machine, &l->register_marks, l->addresses,
+                          OLA_MOST_CELLS, l->numbers, OLA_MOST_CELLS, l->marks, OLA_MOST_CELLS, l->tape,
                           OLA_MOST_VALUES, l->output, OLA_MOST_VALUES, &answer);
     print_answer("with a secret", &answer, &l->machine);
-    printf("tainted registers: %" PRIx64 "\n", l->register_taints);
+    printf("marked registers: %" PRIx64 "\n", l->register_marks);
 }
 
 int main(void) {

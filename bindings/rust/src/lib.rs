@@ -5,7 +5,7 @@
 
 mod c;
 
-/// The greatest lengths that are not refused: of addresses, numbers and taints; of the tape, and of the output.
+/// The greatest lengths that are not refused: of addresses, numbers and marks; of the tape, and of the output.
 pub const MOST_CELLS: usize = 2048;
 pub const MOST_VALUES: usize = 4096;
 
@@ -36,7 +36,7 @@ pub mod refusal {
     pub const PROPHET_STORE: u64 = 15;
     pub const NO_CAPACITY: u64 = 16;
     pub const CLOCK_END_REACHED: u64 = 17;
-    pub const TAINTED_SINK: u64 = 18;
+    pub const MARKED_SINK: u64 = 18;
 }
 
 /// A machine, in the order of the record's words.
@@ -98,14 +98,14 @@ pub enum Program<'a> {
     BudgetText { text: &'a [u8] },
 }
 
-/// All that is lent to a call. The plain run does not look at taints.
+/// All that is lent to a call. The plain run does not look at marks.
 #[derive(Debug, Clone, PartialEq, Eq)]
 pub struct Lent {
     pub machine: Machine,
-    pub register_taints: u64,
+    pub register_marks: u64,
     pub addresses: Vec<u64>,
     pub numbers: Vec<u64>,
-    pub taints: Vec<u64>,
+    pub marks: Vec<u64>,
     pub tape: Vec<u64>,
     pub output: Vec<u64>,
 }
@@ -115,10 +115,10 @@ impl Default for Lent {
     fn default() -> Lent {
         Lent {
             machine: Machine::default(),
-            register_taints: 0,
+            register_marks: 0,
             addresses: vec![0; MOST_CELLS],
             numbers: vec![0; MOST_CELLS],
-            taints: vec![0; MOST_CELLS],
+            marks: vec![0; MOST_CELLS],
             tape: vec![0; MOST_VALUES],
             output: vec![0; MOST_VALUES],
         }
@@ -128,10 +128,10 @@ impl Default for Lent {
 /// What is lent to a call, as slices: for a caller that says itself where each of them stands.
 pub struct Slices<'a> {
     pub machine: &'a mut Machine,
-    pub register_taints: &'a mut u64,
+    pub register_marks: &'a mut u64,
     pub addresses: &'a mut [u64],
     pub numbers: &'a mut [u64],
-    pub taints: &'a mut [u64],
+    pub marks: &'a mut [u64],
     pub tape: &'a mut [u64],
     pub output: &'a mut [u64],
 }
@@ -140,10 +140,10 @@ impl Lent {
     fn slices(&mut self) -> Slices<'_> {
         Slices {
             machine: &mut self.machine,
-            register_taints: &mut self.register_taints,
+            register_marks: &mut self.register_marks,
             addresses: &mut self.addresses,
             numbers: &mut self.numbers,
-            taints: &mut self.taints,
+            marks: &mut self.marks,
             tape: &mut self.tape,
             output: &mut self.output,
         }
@@ -184,7 +184,7 @@ macro_rules! plain {
     };
 }
 
-macro_rules! tainted {
+macro_rules! guarded {
     ($function:ident($program:expr $(, $budget:expr)?), $lent:ident, $machine:expr, $pointer:ident, $answer:expr) => {
         unsafe {
             c::$function(
@@ -192,13 +192,13 @@ macro_rules! tainted {
                 $program.len(),
                 $($budget,)?
                 $machine,
-                $lent.register_taints,
+                $lent.register_marks,
                 $lent.addresses.$pointer(),
                 $lent.addresses.len(),
                 $lent.numbers.$pointer(),
                 $lent.numbers.len(),
-                $lent.taints.$pointer(),
-                $lent.taints.len(),
+                $lent.marks.$pointer(),
+                $lent.marks.len(),
                 $lent.tape.$pointer(),
                 $lent.tape.len(),
                 $lent.output.$pointer(),
@@ -216,10 +216,10 @@ pub fn run(program: Program, lent: &mut Lent) -> Answer {
     answer
 }
 
-/// The tainted run.
-pub fn run_tainted(program: Program, lent: &mut Lent) -> Answer {
+/// The guarded run.
+pub fn run_guarded(program: Program, lent: &mut Lent) -> Answer {
     let mut answer = Answer::default();
-    run_tainted_slices(program, lent.slices(), &mut answer);
+    run_guarded_slices(program, lent.slices(), &mut answer);
     answer
 }
 
@@ -256,12 +256,12 @@ pub fn run_slices(program: Program, lent: Slices, answer: &mut Answer) {
     }
 }
 
-/// The tainted run, in slices.
-pub fn run_tainted_slices(program: Program, lent: Slices, answer: &mut Answer) {
+/// The guarded run, in slices.
+pub fn run_guarded_slices(program: Program, lent: Slices, answer: &mut Answer) {
     match program {
         Program::Words { words, budget } => {
-            tainted!(
-                ola_tainted_run_words(words, budget),
+            guarded!(
+                ola_guarded_run_words(words, budget),
                 lent,
                 lent.machine,
                 as_mut_ptr,
@@ -269,8 +269,8 @@ pub fn run_tainted_slices(program: Program, lent: Slices, answer: &mut Answer) {
             )
         }
         Program::Text { text, budget } => {
-            tainted!(
-                ola_tainted_run_text(text, budget),
+            guarded!(
+                ola_guarded_run_text(text, budget),
                 lent,
                 lent.machine,
                 as_mut_ptr,
@@ -278,8 +278,8 @@ pub fn run_tainted_slices(program: Program, lent: Slices, answer: &mut Answer) {
             )
         }
         Program::BudgetText { text } => {
-            tainted!(
-                ola_tainted_run_budget_text(text),
+            guarded!(
+                ola_guarded_run_budget_text(text),
                 lent,
                 lent.machine,
                 as_mut_ptr,
@@ -303,12 +303,12 @@ pub fn step(words: &[u64], lent: &mut Lent) -> Answer {
     answer
 }
 
-/// One tainted step.
-pub fn step_tainted(words: &[u64], lent: &mut Lent) -> Answer {
+/// One guarded step.
+pub fn step_guarded(words: &[u64], lent: &mut Lent) -> Answer {
     let mut answer = Answer::default();
     let lent = lent.slices();
-    tainted!(
-        ola_tainted_step_words(words),
+    guarded!(
+        ola_guarded_step_words(words),
         lent,
         lent.machine,
         as_mut_ptr,
@@ -352,13 +352,13 @@ pub fn check(program: Program, lent: &Lent) -> Answer {
     answer
 }
 
-/// The same for a tainted run.
-pub fn check_tainted(program: Program, lent: &Lent) -> Answer {
+/// The same for a guarded run.
+pub fn check_guarded(program: Program, lent: &Lent) -> Answer {
     let mut answer = Answer::default();
     match program {
         Program::Words { words, .. } => {
-            tainted!(
-                ola_tainted_check_words(words),
+            guarded!(
+                ola_guarded_check_words(words),
                 lent,
                 &lent.machine,
                 as_ptr,
@@ -366,8 +366,8 @@ pub fn check_tainted(program: Program, lent: &Lent) -> Answer {
             )
         }
         Program::Text { text, .. } => {
-            tainted!(
-                ola_tainted_check_text(text),
+            guarded!(
+                ola_guarded_check_text(text),
                 lent,
                 &lent.machine,
                 as_ptr,
@@ -375,8 +375,8 @@ pub fn check_tainted(program: Program, lent: &Lent) -> Answer {
             )
         }
         Program::BudgetText { text } => {
-            tainted!(
-                ola_tainted_check_budget_text(text),
+            guarded!(
+                ola_guarded_check_budget_text(text),
                 lent,
                 &lent.machine,
                 as_ptr,

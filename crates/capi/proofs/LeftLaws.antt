@@ -6,14 +6,14 @@ use mathlib.Core.List.{List}
 use Rattle.rules.specs.declared.Machine.{Machine}
 use Rattle.rules.specs.declared.Answer.{Answer}
 use Rattle.rules.specs.Answers.{Meaning, meaning}
-use Rattle.rules.specs.Entry.{Snapshot, TaintedSnapshot}
+use Rattle.rules.specs.Entry.{Snapshot, GuardedSnapshot}
 use Rattle.rules.specs.Calls.{Called}
 use Rattle.executor.specs.declared.Called as PlainCode
 use Rattle.executor.specs.Calling as Plain
-use Rattle.tainted.specs.declared.Called as TaintedCode
-use Rattle.tainted.specs.Calling as Tainted
+use Rattle.guarded.specs.declared.Called as GuardedCode
+use Rattle.guarded.specs.Calling as Guarded
 use Rattle.capi.specs.Records.{machineRecord, answerRecord}
-use Rattle.capi.specs.Calling.{buffers, taintedBuffers, plainLeft, taintedLeft}
+use Rattle.capi.specs.Calling.{buffers, guardedBuffers, plainLeft, guardedLeft}
 
 -- a name with ₀ is what was handed in
 module _ {given machine₀ : Machine} {xs ns tape output xs₀ ns₀ tape₀ output₀ answer machine : List ℕ} where
@@ -26,14 +26,14 @@ module _ {given machine₀ : Machine} {xs ns tape output xs₀ ns₀ tape₀ out
       ap₂ (λ (a m : List ℕ). buffers a m xs ns tape output) a m
       ∙ ap plainLeft (h ∙ ap (λ (m : Machine). call (Plain.snapshot m xs₀ ns₀ tape₀ output₀)) e)
 
-  pub tainted-left : {ts ts₀ : List ℕ} {w₀ : ℕ} (r : TaintedCode.Called) (call : TaintedSnapshot → Called TaintedSnapshot) → given ≡ machine₀
-      → Tainted.called r xs ns ts tape output ≡ call (Tainted.snapshot given w₀ xs₀ ns₀ ts₀ tape₀ output₀)
+  pub guarded-left : {ts ts₀ : List ℕ} {w₀ : ℕ} (r : GuardedCode.Called) (call : GuardedSnapshot → Called GuardedSnapshot) → given ≡ machine₀
+      → Guarded.called r xs ns ts tape output ≡ call (Guarded.snapshot given w₀ xs₀ ns₀ ts₀ tape₀ output₀)
       → answer ≡ answerRecord (meaning (r .answer)) (r .steps)
       → machine ≡ machineRecord (r .machine)
-      → taintedBuffers answer machine (r .«register_taints») xs ns ts tape output ≡ taintedLeft (call (Tainted.snapshot machine₀ w₀ xs₀ ns₀ ts₀ tape₀ output₀))
-  tainted-left {ts} {ts₀} {w₀} r call e h a m =
-      ap₂ (λ (a m : List ℕ). taintedBuffers a m (r .«register_taints») xs ns ts tape output) a m
-      ∙ ap taintedLeft (h ∙ ap (λ (m : Machine). call (Tainted.snapshot m w₀ xs₀ ns₀ ts₀ tape₀ output₀)) e)
+      → guardedBuffers answer machine (r .«register_marks») xs ns ts tape output ≡ guardedLeft (call (Guarded.snapshot machine₀ w₀ xs₀ ns₀ ts₀ tape₀ output₀))
+  guarded-left {ts} {ts₀} {w₀} r call e h a m =
+      ap₂ (λ (a m : List ℕ). guardedBuffers a m (r .«register_marks») xs ns ts tape output) a m
+      ∙ ap guardedLeft (h ∙ ap (λ (m : Machine). call (Guarded.snapshot m w₀ xs₀ ns₀ ts₀ tape₀ output₀)) e)
 
 module _ {given machine₀ : Machine} {xs₀ ns₀ tape₀ output₀ answer : List ℕ} where
   pub plain-checked : (a : Answer) (call : Snapshot → Called Snapshot) → given ≡ machine₀
@@ -43,9 +43,9 @@ module _ {given machine₀ : Machine} {xs₀ ns₀ tape₀ output₀ answer : Li
   plain-checked a call e h r =
       r ∙ ap (λ (m : Meaning). answerRecord m 0) (h ∙ ap (λ (m : Machine). call (Plain.snapshot m xs₀ ns₀ tape₀ output₀) .answer) e)
 
-  pub tainted-checked : {ts₀ : List ℕ} {w₀ : ℕ} (a : Answer) (call : TaintedSnapshot → Called TaintedSnapshot) → given ≡ machine₀
-      → meaning a ≡ call (Tainted.snapshot given w₀ xs₀ ns₀ ts₀ tape₀ output₀) .answer
+  pub guarded-checked : {ts₀ : List ℕ} {w₀ : ℕ} (a : Answer) (call : GuardedSnapshot → Called GuardedSnapshot) → given ≡ machine₀
+      → meaning a ≡ call (Guarded.snapshot given w₀ xs₀ ns₀ ts₀ tape₀ output₀) .answer
       → answer ≡ answerRecord (meaning a) 0
-      → answer ≡ answerRecord (call (Tainted.snapshot machine₀ w₀ xs₀ ns₀ ts₀ tape₀ output₀) .answer) 0
-  tainted-checked {ts₀} {w₀} a call e h r =
-      r ∙ ap (λ (m : Meaning). answerRecord m 0) (h ∙ ap (λ (m : Machine). call (Tainted.snapshot m w₀ xs₀ ns₀ ts₀ tape₀ output₀) .answer) e)
+      → answer ≡ answerRecord (call (Guarded.snapshot machine₀ w₀ xs₀ ns₀ ts₀ tape₀ output₀) .answer) 0
+  guarded-checked {ts₀} {w₀} a call e h r =
+      r ∙ ap (λ (m : Meaning). answerRecord m 0) (h ∙ ap (λ (m : Machine). call (Guarded.snapshot m w₀ xs₀ ns₀ ts₀ tape₀ output₀) .answer) e)

@@ -4,11 +4,11 @@ use mathlib.Core.Path.{_≡_}
 use mathlib.Core.List.{List, [], _∷_}
 use lib.ListN.{getD}
 use Rattle.rules.specs.Text.{loadBudgetText}
-use Rattle.rules.specs.Entry.{Snapshot, TaintedSnapshot}
-use Rattle.rules.specs.Calls.{jobProgram, plainCall, plainWords, plainText, plainBudgetText, taintedCall, taintedWords, taintedText, taintedBudgetText}
+use Rattle.rules.specs.Entry.{Snapshot, GuardedSnapshot}
+use Rattle.rules.specs.Calls.{jobProgram, plainCall, plainWords, plainText, plainBudgetText, guardedCall, guardedWords, guardedText, guardedBudgetText}
 use Rattle.rules.specs.MalformedFrames.{Numbered, numberedWords, numberedText, numberedBudgetText, Carried}
 use Rattle.capi.specs.Records.{answerRecord}
-use Rattle.capi.specs.Calling.{plainLeft, taintedLeft}
+use Rattle.capi.specs.Calling.{plainLeft, guardedLeft}
 
 -- words 0 and 1 say refusal 2 exactly where a number is to be carried; it is word 3, and the others are 0
 pub record ShowsEarliest (f : Numbered) (answer : List ℕ) : Type 0 where
@@ -25,14 +25,14 @@ pub record RecordsShowEarliest : Type 0 where
   pub checkText : (text : List ℕ) (s : Snapshot) → ShowsEarliest (numberedText text) (answerRecord (plainText text 0 s .answer) 0)
   pub checkBudgetText : (text : List ℕ) (s : Snapshot)
       → ShowsEarliest (numberedBudgetText text) (answerRecord (plainCall (jobProgram (loadBudgetText text)) 0 s .answer) 0)
-  pub taintedRunWords : (words : List ℕ) (budget : ℕ) (g : TaintedSnapshot)
-      → ShowsEarliest (numberedWords words) (taintedLeft (taintedWords words budget g) .plain .answer)
-  pub taintedStepWords : (words : List ℕ) (g : TaintedSnapshot) → ShowsEarliest (numberedWords words) (taintedLeft (taintedWords words 1 g) .plain .answer)
-  pub taintedRunText : (text : List ℕ) (budget : ℕ) (g : TaintedSnapshot)
-      → ShowsEarliest (numberedText text) (taintedLeft (taintedText text budget g) .plain .answer)
-  pub taintedRunBudgetText : (text : List ℕ) (g : TaintedSnapshot)
-      → ShowsEarliest (numberedBudgetText text) (taintedLeft (taintedBudgetText text g) .plain .answer)
-  pub taintedCheckWords : (words : List ℕ) (g : TaintedSnapshot) → ShowsEarliest (numberedWords words) (answerRecord (taintedWords words 0 g .answer) 0)
-  pub taintedCheckText : (text : List ℕ) (g : TaintedSnapshot) → ShowsEarliest (numberedText text) (answerRecord (taintedText text 0 g .answer) 0)
-  pub taintedCheckBudgetText : (text : List ℕ) (g : TaintedSnapshot)
-      → ShowsEarliest (numberedBudgetText text) (answerRecord (taintedCall (jobProgram (loadBudgetText text)) 0 g .answer) 0)
+  pub guardedRunWords : (words : List ℕ) (budget : ℕ) (g : GuardedSnapshot)
+      → ShowsEarliest (numberedWords words) (guardedLeft (guardedWords words budget g) .plain .answer)
+  pub guardedStepWords : (words : List ℕ) (g : GuardedSnapshot) → ShowsEarliest (numberedWords words) (guardedLeft (guardedWords words 1 g) .plain .answer)
+  pub guardedRunText : (text : List ℕ) (budget : ℕ) (g : GuardedSnapshot)
+      → ShowsEarliest (numberedText text) (guardedLeft (guardedText text budget g) .plain .answer)
+  pub guardedRunBudgetText : (text : List ℕ) (g : GuardedSnapshot)
+      → ShowsEarliest (numberedBudgetText text) (guardedLeft (guardedBudgetText text g) .plain .answer)
+  pub guardedCheckWords : (words : List ℕ) (g : GuardedSnapshot) → ShowsEarliest (numberedWords words) (answerRecord (guardedWords words 0 g .answer) 0)
+  pub guardedCheckText : (text : List ℕ) (g : GuardedSnapshot) → ShowsEarliest (numberedText text) (answerRecord (guardedText text 0 g .answer) 0)
+  pub guardedCheckBudgetText : (text : List ℕ) (g : GuardedSnapshot)
+      → ShowsEarliest (numberedBudgetText text) (answerRecord (guardedCall (jobProgram (loadBudgetText text)) 0 g .answer) 0)

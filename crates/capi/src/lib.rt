@@ -1,7 +1,7 @@
 // The machine for C and Rust: exported functions on numbers and slices. A slice is passed as its first element's address and its length.
 // As in Rust, nothing that a call may write is lent to it twice.
 //
-// For each of the two runs, in plain_calls.rt and tainted_calls.rt: the run of a program as bare words, as text, and as text with a budget
+// For each of the two runs, in plain_calls.rt and guarded_calls.rt: the run of a program as bare words, as text, and as text with a budget
 // line; one step of bare words; and for the three forms the check, which only reads all but its answer: what a run is refused with at
 // entry, else e3.
 //
@@ -14,7 +14,7 @@
 // same for a person.
 mod plain_calls;
 mod records;
-mod tainted_calls;
+mod guarded_calls;
 
 ghost use mathlib.Core.Path.{_≡_};
 ghost use Rattle.rules.specs.Solve.{kilosteps};

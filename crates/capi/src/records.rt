@@ -72,7 +72,7 @@ fn callee_of(answer: Answer) -> [u64; 4]
         Answer::DelegateCalling(a, b, c, d) => [a, b, c, d],
         Answer::Paused => [0; 4],
         Answer::Refused(_) => [0; 4],
-        Answer::TaintedSink => [0; 4],
+        Answer::MarkedSink => [0; 4],
     }
 }
 

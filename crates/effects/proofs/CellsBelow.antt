@@ -12,7 +12,7 @@ use Rattle.rules.specs.Results.{refuse, pass, require}
 use Rattle.rules.specs.Memory.{Slot, absent, present}
 use Rattle.rules.specs.Cells.{Cells, get, cells}
 use Rattle.rules.specs.Step.{slotValue, readBelow}
-use Rattle.rules.specs.Taint.{cellTaint}
+use Rattle.rules.specs.Guarded.{cellMark}
 use Rattle.hardware.specs.declared.cells.Found.the-variants as Found
 use Rattle.hardware.specs.Buffers.{rank, foundOf, cellsOf, Rising, Ordered}
 use Rattle.hardware.proofs.RankLaws.{rank-next}
@@ -38,7 +38,7 @@ module _ (n : ℕ) (xs : List ℕ) (o : Rising n xs) (a i b j : ℕ) (f : foundO
   pub next-end : n ≤ j → foundOf (take n xs) b ≡ Found.Absent j
   next-end h = sym (found-end n xs o b j next-rank h)
 
-module _ (tainted : Bool) (n : ℕ) (xs ns ts : List ℕ) (o : Ordered tainted n xs ns ts) (r : ℕ) where
+module _ (guarded : Bool) (n : ℕ) (xs ns ts : List ℕ) (o : Ordered guarded n xs ns ts) (r : ℕ) where
   abbrev c : Cells ℕ
   c = cellsOf n xs ns
 
@@ -49,11 +49,11 @@ module _ (tainted : Bool) (n : ℕ) (xs ns ts : List ℕ) (o : Ordered tainted n
   unfolding require
   below-present k i h f = rw (le-leb k r h, get-found n xs ns (o .addresses) (o .level) (r - k) i f)
 
-  taint-found : (a i : ℕ) → foundOf (take n xs) a ≡ Found.At i → (tainted && cellTaint (cells ℕ) t a) ≡ (tainted && eqb (getD ts i 0) 1)
-  taint-found a i f = go tainted refl
+  mark-found : (a i : ℕ) → foundOf (take n xs) a ≡ Found.At i → (guarded && cellMark (cells ℕ) t a) ≡ (guarded && eqb (getD ts i 0) 1)
+  mark-found a i f = go guarded refl
     where
-      go : (s : Bool) → tainted ≡ s → (s && cellTaint (cells ℕ) t a) ≡ (s && eqb (getD ts i 0) 1)
-      go true e = rw (get-found n xs ts (o .addresses) (o .taintLevel e) a i f)
+      go : (s : Bool) → guarded ≡ s → (s && cellMark (cells ℕ) t a) ≡ (s && eqb (getD ts i 0) 1)
+      go true e = rw (get-found n xs ts (o .addresses) (o .markLevel e) a i f)
       go false e = refl
 
   below-absent : (k i : ℕ) → foundOf (take n xs) (r - k) ≡ Found.Absent i → readBelow (cells ℕ) c r k ≡ refuse CellAbsent
@@ -66,11 +66,11 @@ module _ (tainted : Bool) (n : ℕ) (xs ns ts : List ℕ) (o : Ordered tainted n
 
   -- where one of them is absent
 
-  pub first-absent : (i : ℕ) → foundOf (take n xs) (r - 1) ≡ Found.Absent i → returnsFrom tainted c t r ≡ Refuse CellAbsent
+  pub first-absent : (i : ℕ) → foundOf (take n xs) (r - 1) ≡ Found.Absent i → returnsFrom guarded c t r ≡ Refuse CellAbsent
   unfolding onResult
   first-absent i f = rw (below-absent 1 i f)
 
-  second-refuses : readBelow (cells ℕ) c r 2 ≡ refuse CellAbsent → returnsFrom tainted c t r ≡ Refuse CellAbsent
+  second-refuses : readBelow (cells ℕ) c r 2 ≡ refuse CellAbsent → returnsFrom guarded c t r ≡ Refuse CellAbsent
   unfolding require onResult
   second-refuses e = rw e (go (leb 1 r) (get c (r - 1)))
     where
@@ -79,17 +79,17 @@ module _ (tainted : Bool) (n : ℕ) (xs ns ts : List ℕ) (o : Ordered tainted n
       go true (present m) = refl
       go false q = refl
 
-  pub second-absent : (i : ℕ) → foundOf (take n xs) (r - 2) ≡ Found.Absent i → returnsFrom tainted c t r ≡ Refuse CellAbsent
+  pub second-absent : (i : ℕ) → foundOf (take n xs) (r - 2) ≡ Found.Absent i → returnsFrom guarded c t r ≡ Refuse CellAbsent
   second-absent i f = second-refuses (below-absent 2 i f)
 
-  pub no-second : r < 2 → returnsFrom tainted c t r ≡ Refuse CellAbsent
+  pub no-second : r < 2 → returnsFrom guarded c t r ≡ Refuse CellAbsent
   unfolding require
   no-second h = second-refuses (rw (lt-leb 2 r h))
 
   -- where both are present
   pub both-present : (i j : ℕ) → 2 ≤ r → foundOf (take n xs) (r - 2) ≡ Found.At i → foundOf (take n xs) (r - 1) ≡ Found.At j
-      → returnsFrom tainted c t r
-      ≡ sinkWhere (tainted && eqb (getD ts j 0) 1) (SetRegister 9 (getD ns i 0) (tainted && eqb (getD ts i 0) 1) (getD ns j 0))
+      → returnsFrom guarded c t r
+      ≡ sinkWhere (guarded && eqb (getD ts j 0) 1) (SetRegister 9 (getD ns i 0) (guarded && eqb (getD ts i 0) 1) (getD ns j 0))
   unfolding onResult
   both-present i j h f g =
-      rw (below-present 1 j (omega arith) g, below-present 2 i h f, taint-found (r - 1) j g, taint-found (r - 2) i f)
+      rw (below-present 1 j (omega arith) g, below-present 2 i h f, mark-found (r - 1) j g, mark-found (r - 2) i f)

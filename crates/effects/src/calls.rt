@@ -10,7 +10,7 @@ ghost use lib.ListN.{take};
 ghost use Rattle.hardware.specs.Buffers.{cellsOf, Rising, Ordered};
 ghost use Rattle.effects.specs.Actions.{Means};
 ghost use Rattle.effects.specs.Effects.{returnsFrom};
-ghost use Rattle.effects.specs.Operations.{withTaint, hasCapacity, callsWhere};
+ghost use Rattle.effects.specs.Operations.{withMark, hasCapacity, callsWhere};
 
 // CALL: the next pc goes below R9.
 pub fn call(frame: u64, addresses: &[u64], count: usize, target: u64, next: u64) -> Action
@@ -25,15 +25,15 @@ pub fn call(frame: u64, addresses: &[u64], count: usize, target: u64, next: u64)
 
 // RET: the pc from below R9, R9 from below that. The two cells stand side by side.
 pub fn return_from(
-    tainted: bool,
+    guarded: bool,
     frame: u64,
     addresses: &[u64],
     numbers: &[u64],
-    taints: &[u64],
+    marks: &[u64],
     count: usize,
 ) -> Action
-    requires { ⌜ Ordered tainted count (now addresses) (now numbers) (now taints) ⌝ }
-    ensures { λ r. ⌜ ((l : List ℕ) → Means l r (λ t. withTaint t (returnsFrom tainted (cellsOf count (now (addresses .entry)) (now (numbers .entry))) (cellsOf count (now (addresses .entry)) (now (taints .entry))) frame))) ⌝ }
+    requires { ⌜ Ordered guarded count (now addresses) (now numbers) (now marks) ⌝ }
+    ensures { λ r. ⌜ ((l : List ℕ) → Means l r (λ t. withMark t (returnsFrom guarded (cellsOf count (now (addresses .entry)) (now (numbers .entry))) (cellsOf count (now (addresses .entry)) (now (marks .entry))) frame))) ⌝ }
 {
     if frame < 2 {
         return Action::refuse(Refusal::CellAbsent);
@@ -47,12 +47,12 @@ pub fn return_from(
             if addresses[at + 1] != frame - 1 {
                 return Action::refuse(Refusal::CellAbsent);
             }
-            if tainted {
-                if taints[at + 1] == 1 {
+            if guarded {
+                if marks[at + 1] == 1 {
                     return Action::sink();
                 }
             }
-            Action::set_register(9, numbers[at], tainted && taints[at] == 1, numbers[at + 1])
+            Action::set_register(9, numbers[at], guarded && marks[at] == 1, numbers[at + 1])
         }
     }
 }

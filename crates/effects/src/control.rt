@@ -33,16 +33,16 @@ pub fn check_range(a: u64, next: u64) -> Action
     Action::refuse(Refusal::RangeCheckFailed)
 }
 
-// CJMP. A tainted op1 stops it after op0's test. The next pc is read only where it goes on there, so that this is a branch, which can be
+// CJMP. A marked op1 stops it after op0's test. The next pc is read only where it goes on there, so that this is a branch, which can be
 // predicted: chosen without one, all that follows would wait for op0.
-pub fn jump_where(taint: bool, a: u64, target: u64, rows: &[u16], row: Row) -> Action
+pub fn jump_where(mark: bool, a: u64, target: u64, rows: &[u16], row: Row) -> Action
     requires { ⌜ row .at + 8 ≤ length (now rows) ⌝ }
-    ensures { λ r. ⌜ ((l : List ℕ) → Means l r (λ t. jumpsWhere a (pass target) taint (getD (now (rows .entry)) (row .at + 5) 0))) ⌝ }
+    ensures { λ r. ⌜ ((l : List ℕ) → Means l r (λ t. jumpsWhere a (pass target) mark (getD (now (rows .entry)) (row .at + 5) 0))) ⌝ }
 {
     if 1 < a {
         return Action::refuse(Refusal::NotSmall);
     }
-    if taint {
+    if mark {
         return Action::sink();
     }
     if a == 1 {

@@ -6,7 +6,7 @@ pub mod arithmetic;
 pub mod calls;
 pub mod control;
 pub mod memory;
-pub mod taints;
+pub mod marks;
 pub mod tape;
 
 use rules::Refusal;
@@ -18,10 +18,10 @@ ghost use Rattle.hardware.specs.declared.cells.Found.the-variants as Found;
 ghost use Rattle.hardware.specs.Buffers.{foundOf};
 ghost use Rattle.effects.specs.Actions.{SetRegister, Store, Jump, LoadTape, StoreTape, CallContract, End, Refuse, Sink, Means};
 
-// What is run: the plain machine, or the tainted one with the taints of its registers, bit r for register r.
+// What is run: the plain machine, or the guarded one with the marks of its registers, bit r for register r.
 pub struct Mode {
-    pub tainted: bool,
-    pub register_taints: u64,
+    pub guarded: bool,
+    pub register_marks: u64,
 }
 
 // How many cells, tape values and output values are used.
@@ -45,8 +45,8 @@ pub enum Kind {
 }
 
 // What a step does. One flat record for all kinds, so that it stays in the processor's registers: what a kind does not need is 0. `place`
-// is a register, or a place among cells or on the tape; `next` is the pc after the step; `flag` is the taint of a number from a cell, which
-// counts only in a tainted run, or whether a call delegates. A present cell's address says only what is meant.
+// is a register, or a place among cells or on the tape; `next` is the pc after the step; `flag` is the mark of a number from a cell, which
+// counts only in a guarded run, or whether a call delegates. A present cell's address says only what is meant.
 pub struct Action {
     pub kind: Kind,
     pub place: usize,
@@ -58,9 +58,9 @@ pub struct Action {
 }
 
 impl Action {
-    // A number to a register. It is tainted by the flag, and by the registers that it is made of, which are looked at where it is written.
-    pub fn set_register(register: usize, value: u64, taint: bool, next: u64) -> Action
-        ensures { λ r. ⌜ ((l : List ℕ) → Means l r (λ t. SetRegister register value (taint || t) next)) ⌝ }
+    // A number to a register. It is marked by the flag, and by the registers that it is made of, which are looked at where it is written.
+    pub fn set_register(register: usize, value: u64, mark: bool, next: u64) -> Action
+        ensures { λ r. ⌜ ((l : List ℕ) → Means l r (λ t. SetRegister register value (mark || t) next)) ⌝ }
     {
         Action {
             kind: Kind::SetRegister,
@@ -68,7 +68,7 @@ impl Action {
             count: 0,
             address: 0,
             number: value,
-            flag: taint,
+            flag: mark,
             next,
         }
     }

@@ -13,7 +13,7 @@ ghost use lib.ListN.{take};
 ghost use Rattle.rules.specs.Step.{isStorable};
 ghost use Rattle.hardware.specs.Buffers.{cellsOf, cellOf, Rising, Ordered};
 ghost use Rattle.effects.specs.Actions.{Means};
-ghost use Rattle.effects.specs.Operations.{withTaint, loadsAt, storesAt, testOf, hasCapacity, storesWhere};
+ghost use Rattle.effects.specs.Operations.{withMark, loadsAt, storesAt, testOf, hasCapacity, storesWhere};
 
 // A store's tests pass, or one refuses.
 pub enum Tested {
@@ -64,23 +64,23 @@ pub fn store_cell(addresses: &[u64], count: usize, address: u64, number: u64, ne
 
 // MLOAD, by the sum of its operands.
 pub fn load(
-    tainted: bool,
+    guarded: bool,
     address: FieldElement,
     register: usize,
     next: u64,
     addresses: &[u64],
     numbers: &[u64],
-    taints: &[u64],
+    marks: &[u64],
     count: usize,
 ) -> Action
-    requires { ⌜ Ordered tainted count (now addresses) (now numbers) (now taints) ⌝ }
-    ensures { λ r. ⌜ ((l : List ℕ) → Means l r (λ t. withTaint t (loadsAt (cellOf tainted (cellsOf count (now (addresses .entry)) (now (numbers .entry))) (cellsOf count (now (addresses .entry)) (now (taints .entry)))) address register next))) ⌝ }
+    requires { ⌜ Ordered guarded count (now addresses) (now numbers) (now marks) ⌝ }
+    ensures { λ r. ⌜ ((l : List ℕ) → Means l r (λ t. withMark t (loadsAt (cellOf guarded (cellsOf count (now (addresses .entry)) (now (numbers .entry))) (cellsOf count (now (addresses .entry)) (now (marks .entry)))) address register next))) ⌝ }
 {
     let FieldElement::Element(x) = address else {
         return Action::refuse(Refusal::NotInField);
     };
-    match cells::read(tainted, addresses, numbers, taints, count, x.value) {
-        Cell::Present { number, tainted } => Action::set_register(register, number, tainted, next),
+    match cells::read(guarded, addresses, numbers, marks, count, x.value) {
+        Cell::Present { number, marked } => Action::set_register(register, number, marked, next),
         Cell::Absent => Action::refuse(Refusal::CellAbsent),
     }
 }

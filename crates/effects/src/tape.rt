@@ -2,7 +2,7 @@
 use crate::Action;
 use crate::memory;
 use crate::memory::Tested;
-use crate::taints;
+use crate::marks;
 use hardware::cells;
 use hardware::cells::Span;
 use hardware::regions::Region;
@@ -20,7 +20,7 @@ ghost use Rattle.rules.specs.Entry.{every};
 ghost use Rattle.hardware.specs.Buffers.{Rising};
 ghost use Rattle.effects.specs.Actions.{StoreTape, CallContract, Means};
 ghost use Rattle.effects.specs.Effects.{check, sinkWhere, tapeFrom, tapeCount};
-ghost use Rattle.effects.specs.Operations.{testsOf, hasCapacity, loadsPart, onTapeOf, loadsTape, spanAmong, onSpan, partTaint, more};
+ghost use Rattle.effects.specs.Operations.{testsOf, hasCapacity, loadsPart, onTapeOf, loadsTape, spanAmong, onSpan, partMark, more};
 
 // Where a span's first cell is, or its refusal.
 pub enum SpanFound {
@@ -69,12 +69,12 @@ fn find_cells(addresses: &[u64], count: usize, start: u64, n: u64) -> SpanFound
 
 // TSTORE: n cells from a start on go to tape and output.
 pub fn store_tape(
-    tainted: bool,
+    guarded: bool,
     start: u64,
     n: u64,
     next: u64,
     addresses: &[u64],
-    taints: &[u64],
+    marks: &[u64],
     count: usize,
     tape: &[u64],
     used: usize,
@@ -82,16 +82,16 @@ pub fn store_tape(
     shown: usize,
 ) -> Action
     requires { ⌜ Rising count (now addresses) ⌝ }
-    requires { ⌜ (tainted ≡ true → length (now taints) ≡ length (now addresses)) ⌝ }
+    requires { ⌜ (guarded ≡ true → length (now marks) ≡ length (now addresses)) ⌝ }
     requires { ⌜ used ≤ length (now tape) ⌝ }
     requires { ⌜ shown ≤ length (now output) ⌝ }
-    ensures { λ r. ⌜ ((l : List ℕ) → Means l r (λ t. onSpan (spanAmong (take count (now (addresses .entry))) start n) (λ at. sinkWhere (partTaint tainted (now (taints .entry)) at n) (check (more used n (now (tape .entry))) NoCapacity (check (more shown n (now (output .entry))) NoCapacity (StoreTape at n next)))))) ⌝ }
+    ensures { λ r. ⌜ ((l : List ℕ) → Means l r (λ t. onSpan (spanAmong (take count (now (addresses .entry))) start n) (λ at. sinkWhere (partMark guarded (now (marks .entry)) at n) (check (more used n (now (tape .entry))) NoCapacity (check (more shown n (now (output .entry))) NoCapacity (StoreTape at n next)))))) ⌝ }
 {
     match find_cells(addresses, count, start, n) {
         SpanFound::Refused(f) => Action::refuse(f),
         SpanFound::At(at) => {
             let length = n as usize;
-            if taints::is_part_tainted(tainted, taints, at, length) {
+            if marks::is_part_marked(guarded, marks, at, length) {
                 return Action::sink();
             }
             if tape.len() - used < length {
@@ -107,25 +107,25 @@ pub fn store_tape(
 
 // SCCALL: the four cells from a start on name the callee; it delegates where op1 is 1.
 pub fn call_contract(
-    tainted: bool,
+    guarded: bool,
     start: u64,
     b: u64,
     next: u64,
     addresses: &[u64],
-    taints: &[u64],
+    marks: &[u64],
     count: usize,
     tape: &[u64],
     used: usize,
 ) -> Action
     requires { ⌜ Rising count (now addresses) ⌝ }
-    requires { ⌜ (tainted ≡ true → length (now taints) ≡ length (now addresses)) ⌝ }
+    requires { ⌜ (guarded ≡ true → length (now marks) ≡ length (now addresses)) ⌝ }
     requires { ⌜ used ≤ length (now tape) ⌝ }
-    ensures { λ r. ⌜ ((l : List ℕ) → Means l r (λ t. onSpan (spanAmong (take count (now (addresses .entry))) start 4) (λ at. sinkWhere (partTaint tainted (now (taints .entry)) at 4) (check (more used 12 (now (tape .entry))) NoCapacity (CallContract at (eqb b 1) next))))) ⌝ }
+    ensures { λ r. ⌜ ((l : List ℕ) → Means l r (λ t. onSpan (spanAmong (take count (now (addresses .entry))) start 4) (λ at. sinkWhere (partMark guarded (now (marks .entry)) at 4) (check (more used 12 (now (tape .entry))) NoCapacity (CallContract at (eqb b 1) next))))) ⌝ }
 {
     match find_cells(addresses, count, start, 4) {
         SpanFound::Refused(f) => Action::refuse(f),
         SpanFound::At(at) => {
-            if taints::is_part_tainted(tainted, taints, at, 4) {
+            if marks::is_part_marked(guarded, marks, at, 4) {
                 return Action::sink();
             }
             if tape.len() - used < 12 {

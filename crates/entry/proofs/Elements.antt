@@ -10,7 +10,7 @@ use lib.ListN.{length, getD, drop, drop-of-length-le}
 use lib.Seq.{drop-cons}
 use borrow.Author.Tests.{lt-ltb, le-ltb, le-leb, lt-leb}
 use Rattle.rules.specs.Numbers.{p, heapEnd}
-use Rattle.rules.specs.Entry.{every, risingFrom, lowBits, taintedBelow}
+use Rattle.rules.specs.Entry.{every, risingFrom, lowBits, markedBelow}
 use Rattle.rules.proofs.BoolLaws.{and-with-false}
 
 module _ (l : List ℕ) (i : ℕ) where
@@ -38,49 +38,49 @@ module _ (l : List ℕ) (i : ℕ) where
   pub rising-end : (n : ℕ) → length l ≤ i → risingFrom n (drop i l) ≡ true
   rising-end n h = rw (drop-of-length-le l h)
 
-  pub tainted-more : (t : Bool) (ts : List Bool) → i < length l → (not t || ltb element p) ≡ true
-      → taintedBelow (t ∷ ts) (drop i l) ≡ taintedBelow ts (drop (i + 1) l)
-  tainted-more t ts h e = rw (add-one, drop-cons l i 0 h, e)
+  pub marked-more : (t : Bool) (ts : List Bool) → i < length l → (not t || ltb element p) ≡ true
+      → markedBelow (t ∷ ts) (drop i l) ≡ markedBelow ts (drop (i + 1) l)
+  marked-more t ts h e = rw (add-one, drop-cons l i 0 h, e)
 
-  pub tainted-fails : (t : Bool) (ts : List Bool) → i < length l → (not t || ltb element p) ≡ false → taintedBelow (t ∷ ts) (drop i l) ≡ false
-  tainted-fails t ts h e = rw (drop-cons l i 0 h, e)
+  pub marked-fails : (t : Bool) (ts : List Bool) → i < length l → (not t || ltb element p) ≡ false → markedBelow (t ∷ ts) (drop i l) ≡ false
+  marked-fails t ts h e = rw (drop-cons l i 0 h, e)
 
-  pub tainted-end : (ts : List Bool) → length l ≤ i → taintedBelow ts (drop i l) ≡ true
-  tainted-end ts h = rw (drop-of-length-le l h) (none ts)
+  pub marked-end : (ts : List Bool) → length l ≤ i → markedBelow ts (drop i l) ≡ true
+  marked-end ts h = rw (drop-of-length-le l h) (none ts)
     where
-      none : (ts : List Bool) → taintedBelow ts [] ≡ true
+      none : (ts : List Bool) → markedBelow ts [] ≡ true
       none [] = refl
       none (t ∷ ts) = refl
 
--- which cells are tainted
-abbrev pub tainted : List ℕ → List Bool
-tainted ts = map (λ t. eqb t 1) ts
+-- which cells are marked
+abbrev pub marked : List ℕ → List Bool
+marked ts = map (λ t. eqb t 1) ts
 
 module _ (ts ns : List ℕ) (i : ℕ) where
   pub cells-more : i < length ts → i < length ns → (not (eqb (getD ts i 0) 1) || ltb (getD ns i 0) p) ≡ true
-      → taintedBelow (tainted (drop i ts)) (drop i ns) ≡ taintedBelow (tainted (drop (i + 1) ts)) (drop (i + 1) ns)
+      → markedBelow (marked (drop i ts)) (drop i ns) ≡ markedBelow (marked (drop (i + 1) ts)) (drop (i + 1) ns)
   cells-more h k e =
-      ap (λ l. taintedBelow (tainted l) (drop i ns)) (drop-cons ts i 0 h)
-      ∙ tainted-more ns i (eqb (getD ts i 0) 1) (tainted (drop (suc i) ts)) k e
-      ∙ ap (λ (j : ℕ). taintedBelow (tainted (drop j ts)) (drop (i + 1) ns)) (sym (add-one i))
+      ap (λ l. markedBelow (marked l) (drop i ns)) (drop-cons ts i 0 h)
+      ∙ marked-more ns i (eqb (getD ts i 0) 1) (marked (drop (suc i) ts)) k e
+      ∙ ap (λ (j : ℕ). markedBelow (marked (drop j ts)) (drop (i + 1) ns)) (sym (add-one i))
 
   pub cells-fail : i < length ts → i < length ns → (not (eqb (getD ts i 0) 1) || ltb (getD ns i 0) p) ≡ false
-      → taintedBelow (tainted (drop i ts)) (drop i ns) ≡ false
+      → markedBelow (marked (drop i ts)) (drop i ns) ≡ false
   cells-fail h k e =
-      ap (λ l. taintedBelow (tainted l) (drop i ns)) (drop-cons ts i 0 h)
-      ∙ tainted-fails ns i (eqb (getD ts i 0) 1) (tainted (drop (suc i) ts)) k e
+      ap (λ l. markedBelow (marked l) (drop i ns)) (drop-cons ts i 0 h)
+      ∙ marked-fails ns i (eqb (getD ts i 0) 1) (marked (drop (suc i) ts)) k e
 
-pub cells-end : (ts : List ℕ) (i : ℕ) (ns : List ℕ) → length ts ≤ i → taintedBelow (tainted (drop i ts)) ns ≡ true
+pub cells-end : (ts : List ℕ) (i : ℕ) (ns : List ℕ) → length ts ≤ i → markedBelow (marked (drop i ts)) ns ≡ true
 cells-end ts i ns h = rw (drop-of-length-le ts h)
 
--- the taints of registers: the bits that are left of a word
+-- the marks of registers: the bits that are left of a word
 module _ (l : List ℕ) (i n w : ℕ) where
   bits : i < n → lowBits (n - i) w ≡ eqb (w % 2) 1 ∷ lowBits (n - (i + 1)) (w / 2)
   bits h = let e : n - i ≡ suc (n - (i + 1)) = omega arith in ap (λ (k : ℕ). lowBits k w) e
 
   pub registers-more : i < n → i < length l → (not (eqb (w % 2) 1) || ltb (getD l i 0) p) ≡ true
-      → taintedBelow (lowBits (n - i) w) (drop i l) ≡ taintedBelow (lowBits (n - (i + 1)) (w / 2)) (drop (i + 1) l)
-  registers-more h k e = ap (λ ts. taintedBelow ts (drop i l)) (bits h) ∙ tainted-more l i (eqb (w % 2) 1) (lowBits (n - (i + 1)) (w / 2)) k e
+      → markedBelow (lowBits (n - i) w) (drop i l) ≡ markedBelow (lowBits (n - (i + 1)) (w / 2)) (drop (i + 1) l)
+  registers-more h k e = ap (λ ts. markedBelow ts (drop i l)) (bits h) ∙ marked-more l i (eqb (w % 2) 1) (lowBits (n - (i + 1)) (w / 2)) k e
 
-  pub registers-fail : i < n → i < length l → (not (eqb (w % 2) 1) || ltb (getD l i 0) p) ≡ false → taintedBelow (lowBits (n - i) w) (drop i l) ≡ false
-  registers-fail h k e = ap (λ ts. taintedBelow ts (drop i l)) (bits h) ∙ tainted-fails l i (eqb (w % 2) 1) (lowBits (n - (i + 1)) (w / 2)) k e
+  pub registers-fail : i < n → i < length l → (not (eqb (w % 2) 1) || ltb (getD l i 0) p) ≡ false → markedBelow (lowBits (n - i) w) (drop i l) ≡ false
+  registers-fail h k e = ap (λ ts. markedBelow ts (drop i l)) (bits h) ∙ marked-fails l i (eqb (w % 2) 1) (lowBits (n - (i + 1)) (w / 2)) k e

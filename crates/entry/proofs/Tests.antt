@@ -8,7 +8,7 @@ use lib.ListN.{length, getD}
 use borrow.Author.Tests.{lt-ltb, le-ltb, le-leb, lt-leb, eq-eqb, ne-eqb}
 use Rattle.rules.specs.Numbers.{clockEnd, cellLimit, valueLimit}
 use Rattle.rules.specs.Step.{isStorable}
-use Rattle.rules.specs.Entry.{Snapshot, TaintedSnapshot, usedAddresses, usedNumbers, usedTaints, taintedRegisters, taintedCells, every, risingFrom, taintedBelow, all, plainEntry, taintedNumbersBelow, taintEntry}
+use Rattle.rules.specs.Entry.{Snapshot, GuardedSnapshot, usedAddresses, usedNumbers, usedMarks, markedRegisters, markedCells, every, risingFrom, markedBelow, all, plainEntry, markedNumbersBelow, marksEntry}
 use Rattle.rules.proofs.BoolLaws.{false-true, and-with-true}
 use Rattle.rules.proofs.EntryLaws.{all-none, all-more}
 
@@ -92,34 +92,34 @@ module _ (s : Snapshot) where
       (all-next _ (le-leb _ _ output-few)
       (all-next _ rising (all-decides _ numbers all-none)))))))))
 
--- The taints
+-- The marks
 
-module _ (g : TaintedSnapshot) where
-  pub taints-uneven : (length (g .taints) ≡ length (g .plain .addresses) → ⊥) → taintEntry g ≡ false
-  unfolding taintEntry
-  taints-uneven h = all-fails _ 0 (ne-eqb _ _ h)
+module _ (g : GuardedSnapshot) where
+  pub marks-uneven : (length (g .marks) ≡ length (g .plain .addresses) → ⊥) → marksEntry g ≡ false
+  unfolding marksEntry
+  marks-uneven h = all-fails _ 0 (ne-eqb _ _ h)
 
-  pub registers-beyond : 1024 ≤ g .registerTaints → taintEntry g ≡ false
-  unfolding taintEntry
+  pub registers-beyond : 1024 ≤ g .registerMarks → marksEntry g ≡ false
+  unfolding marksEntry
   registers-beyond h = all-fails _ 2 (le-ltb _ _ h)
 
-  pub register-above : taintedBelow (taintedRegisters g) (g .plain .machine .registers) ≡ false → taintEntry g ≡ false
-  unfolding taintEntry taintedNumbersBelow
+  pub register-above : markedBelow (markedRegisters g) (g .plain .machine .registers) ≡ false → marksEntry g ≡ false
+  unfolding marksEntry markedNumbersBelow
   register-above h = all-fails _ 3 (all-fails _ 0 h)
 
-  pub cell-above : taintedBelow (taintedCells g) (usedNumbers (g .plain)) ≡ false → taintEntry g ≡ false
-  unfolding taintEntry taintedNumbersBelow
+  pub cell-above : markedBelow (markedCells g) (usedNumbers (g .plain)) ≡ false → marksEntry g ≡ false
+  unfolding marksEntry markedNumbersBelow
   cell-above h = all-fails _ 3 (all-fails _ 1 h)
 
-  pub taints-decide : {r : Bool}
-      → length (g .taints) ≡ length (g .plain .addresses)
-      → g .registerTaints < 1024
-      → taintedBelow (taintedRegisters g) (g .plain .machine .registers) ≡ true
-      → taintedBelow (taintedCells g) (usedNumbers (g .plain)) ≡ true
-      → r ≡ every (λ t. leb t 1) (usedTaints g)
-      → r ≡ taintEntry g
-  unfolding taintEntry taintedNumbersBelow
-  taints-decide even beyond registers cells taints =
+  pub marks-decide : {r : Bool}
+      → length (g .marks) ≡ length (g .plain .addresses)
+      → g .registerMarks < 1024
+      → markedBelow (markedRegisters g) (g .plain .machine .registers) ≡ true
+      → markedBelow (markedCells g) (usedNumbers (g .plain)) ≡ true
+      → r ≡ every (λ t. leb t 1) (usedMarks g)
+      → r ≡ marksEntry g
+  unfolding marksEntry markedNumbersBelow
+  marks-decide even beyond registers cells marks =
       all-next _ (eq-eqb _ _ even)
-      (all-decides _ taints
+      (all-decides _ marks
       (all-more _ (lt-ltb _ _ beyond) (all-more _ (all-more _ registers (all-more _ cells all-none)) all-none)))

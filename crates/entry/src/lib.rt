@@ -1,6 +1,6 @@
 // The tests of refusal 3 on what a caller hands in. They look at the used elements of each buffer only, and write nothing.
 //
-// Internal, for the crates above, and for any arguments: `accepts`, and `accepts_taints` for what only a tainted run has.
+// Internal, for the crates above, and for any arguments: `accepts`, and `accepts_marks` for what only a guarded run has.
 use goldilocks::GoldilocksField;
 use hardware::cells::Cell;
 use hardware::regions::Region;
@@ -12,7 +12,7 @@ ghost use Prim.Native.Nat.{ℕ};
 ghost use lib.Dec.{ltb, leb, eqb};
 ghost use lib.ListN.{take};
 ghost use Rattle.rules.specs.Numbers.{p};
-ghost use Rattle.rules.specs.Entry.{every, risingFrom, lowBits, taintedBelow, plainEntry, taintEntry};
+ghost use Rattle.rules.specs.Entry.{every, risingFrom, lowBits, markedBelow, plainEntry, marksEntry};
 
 // clk has to be below it.
 pub const CLOCK_END: u64 = 1_000_000_000_000;
@@ -66,26 +66,26 @@ fn at_most(numbers: &[u64], limit: u64) -> bool
     true
 }
 
-// A tainted number has to be below p.
-fn taint_fits(tainted: bool, number: u64) -> bool
-    ensures { λ r. ⌜ r ≡ (not tainted || ltb number p) ⌝ }
+// A marked number has to be below p.
+fn mark_fits(marked: bool, number: u64) -> bool
+    ensures { λ r. ⌜ r ≡ (not marked || ltb number p) ⌝ }
 {
-    if tainted {
+    if marked {
         return number < GoldilocksField::ORDER;
     }
     true
 }
 
-// Is each number with a taint of 1 below p?
-fn tainted_below(taints: &[u64], numbers: &[u64]) -> bool
-    ensures { λ r. ⌜ r ≡ taintedBelow (map (λ t. eqb t 1) (now (taints .entry))) (now (numbers .entry)) ⌝ }
+// Is each number with a mark of 1 below p?
+fn marked_below(marks: &[u64], numbers: &[u64]) -> bool
+    ensures { λ r. ⌜ r ≡ markedBelow (map (λ t. eqb t 1) (now (marks .entry))) (now (numbers .entry)) ⌝ }
 {
     let mut i = 0;
-    while i < taints.len() {
+    while i < marks.len() {
         if numbers.len() <= i {
             return true;
         }
-        if !taint_fits(taints[i] == 1, numbers[i]) {
+        if !mark_fits(marks[i] == 1, numbers[i]) {
             return false;
         }
         i += 1;
@@ -95,12 +95,12 @@ fn tainted_below(taints: &[u64], numbers: &[u64]) -> bool
 
 // Is the number of each register whose bit is set below p?
 fn registers_below(word: u64, registers: [u64; 10]) -> bool
-    ensures { λ r. ⌜ r ≡ taintedBelow (lowBits 10 word) registers ⌝ }
+    ensures { λ r. ⌜ r ≡ markedBelow (lowBits 10 word) registers ⌝ }
 {
     let mut bits = word;
     let mut i = 0;
     while i < 10 {
-        if !taint_fits(bits % 2 == 1, registers[i]) {
+        if !mark_fits(bits % 2 == 1, registers[i]) {
             return false;
         }
         bits = bits / 2;
@@ -149,29 +149,29 @@ pub fn accepts(
     at_most(used(numbers, machine.cell_count), Cell::LARGEST)
 }
 
-// Do the taints pass? Bit i of `register_taints` is register i's. Tape and output do not matter.
-pub fn accepts_taints(
+// Do the marks pass? Bit i of `register_marks` is register i's. Tape and output do not matter.
+pub fn accepts_marks(
     machine: Machine,
-    register_taints: u64,
+    register_marks: u64,
     addresses: &[u64],
     numbers: &[u64],
-    taints: &[u64],
+    marks: &[u64],
 ) -> bool
-    ensures { λ r. ⌜ ((tape output : List ℕ) → r ≡ taintEntry (record { plain = record { machine = machine; addresses = now (addresses .entry); numbers = now (numbers .entry); tape = tape; output = output }; taints = now (taints .entry); registerTaints = «register_taints» })) ⌝ }
+    ensures { λ r. ⌜ ((tape output : List ℕ) → r ≡ marksEntry (record { plain = record { machine = machine; addresses = now (addresses .entry); numbers = now (numbers .entry); tape = tape; output = output }; marks = now (marks .entry); registerMarks = «register_marks» })) ⌝ }
 {
-    if taints.len() != addresses.len() {
+    if marks.len() != addresses.len() {
         return false;
     }
-    if 1024 <= register_taints {
+    if 1024 <= register_marks {
         return false;
     }
     let registers = machine.registers;
-    if !registers_below(register_taints, registers) {
+    if !registers_below(register_marks, registers) {
         return false;
     }
-    let used_taints = used(taints, machine.cell_count);
-    if !tainted_below(used_taints, used(numbers, machine.cell_count)) {
+    let used_marks = used(marks, machine.cell_count);
+    if !marked_below(used_marks, used(numbers, machine.cell_count)) {
         return false;
     }
-    at_most(used_taints, 1)
+    at_most(used_marks, 1)
 }

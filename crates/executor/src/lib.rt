@@ -66,8 +66,8 @@ fn enter(
     if entry::accepts(machine, addresses, numbers, tape, output) {
         let mut none = [0u64; 1];
         let mode = Mode {
-            tainted: false,
-            register_taints: 0,
+            guarded: false,
+            register_marks: 0,
         };
         let ran = interpreter::run(
             mode,

@@ -227,23 +227,23 @@ module _ (n : ℕ) (xs bs : List ℕ) (o : Rising n xs) (l : length bs ≡ lengt
 
 -- What is read
 
-module _ (tainted : Bool) (n : ℕ) (xs ns ts : List ℕ) (o : Ordered tainted n xs ns ts) (a i : ℕ) where
-  pub read-tainted : foundOf (take n xs) a ≡ Found.At i → tainted ≡ true
-      → Cell.Present (getD ns i 0) (eqb (getD ts i 0) 1) ≡ cellOf tainted (cellsOf n xs ns) (cellsOf n xs ts) a
-  read-tainted f t =
-      rw (t, get-found n xs ns (o .addresses) (o .level) a i f, get-found n xs ts (o .addresses) (o .taintLevel t) a i f)
+module _ (guarded : Bool) (n : ℕ) (xs ns ts : List ℕ) (o : Ordered guarded n xs ns ts) (a i : ℕ) where
+  pub read-marked : foundOf (take n xs) a ≡ Found.At i → guarded ≡ true
+      → Cell.Present (getD ns i 0) (eqb (getD ts i 0) 1) ≡ cellOf guarded (cellsOf n xs ns) (cellsOf n xs ts) a
+  read-marked f t =
+      rw (t, get-found n xs ns (o .addresses) (o .level) a i f, get-found n xs ts (o .addresses) (o .markLevel t) a i f)
 
-  pub read-plain : foundOf (take n xs) a ≡ Found.At i → tainted ≡ false
-      → Cell.Present (getD ns i 0) tainted ≡ cellOf tainted (cellsOf n xs ns) (cellsOf n xs ts) a
+  pub read-plain : foundOf (take n xs) a ≡ Found.At i → guarded ≡ false
+      → Cell.Present (getD ns i 0) guarded ≡ cellOf guarded (cellsOf n xs ns) (cellsOf n xs ts) a
   read-plain f t = rw (t, get-found n xs ns (o .addresses) (o .level) a i f)
 
-  pub read-absent : foundOf (take n xs) a ≡ Found.Absent i → Cell.Absent ≡ cellOf tainted (cellsOf n xs ns) (cellsOf n xs ts) a
+  pub read-absent : foundOf (take n xs) a ≡ Found.Absent i → Cell.Absent ≡ cellOf guarded (cellsOf n xs ns) (cellsOf n xs ts) a
   read-absent f = rw (get-absent n xs ns (o .addresses) (o .level) a i f)
 
 -- What is stored
 
 -- a cell that is found is written at its place
-module _ (tainted : Bool) (n : ℕ) (xs ns ts : List ℕ) (o : Ordered tainted n xs ns ts) (a v : ℕ) (t : Bool) (i : ℕ)
+module _ (guarded : Bool) (n : ℕ) (xs ns ts : List ℕ) (o : Ordered guarded n xs ns ts) (a v : ℕ) (t : Bool) (i : ℕ)
     (e : Found.At i ≡ foundOf (take n xs) a) where
   contents-written : (bs : List ℕ) (w : ℕ) → length bs ≡ length xs → set bs i w ≡ overlay (contents (put (cellsOf n xs bs) a w)) bs
   contents-written bs w l =
@@ -251,12 +251,12 @@ module _ (tainted : Bool) (n : ℕ) (xs ns ts : List ℕ) (o : Ordered tainted n
       overlay-set n bs i w (found-within n xs (o .addresses) a i e) (omega arith)
       ∙ ap (λ (z : List ℕ). overlay z bs) (sym (stored-found n xs bs (o .addresses) l a i w e .1))
 
-  taints-written : (s : Bool) → tainted ≡ s → choose s (set ts i (bit t)) ts ≡ choose s (overlay (contents (put (cellsOf n xs ts) a (bit t))) ts) ts
-  taints-written true q = contents-written ts (bit t) (o .taintLevel q)
-  taints-written false q = refl
+  marks-written : (s : Bool) → guarded ≡ s → choose s (set ts i (bit t)) ts ≡ choose s (overlay (contents (put (cellsOf n xs ts) a (bit t))) ts) ts
+  marks-written true q = contents-written ts (bit t) (o .markLevel q)
+  marks-written false q = refl
 
-  pub written-holds : Holding tainted (put (cellsOf n xs ns) a v) (put (cellsOf n xs ts) a (bit t)) n
-      xs ns ts xs (set ns i v) (choose tainted (set ts i (bit t)) ts)
+  pub written-holds : Holding guarded (put (cellsOf n xs ns) a v) (put (cellsOf n xs ts) a (bit t)) n
+      xs ns ts xs (set ns i v) (choose guarded (set ts i (bit t)) ts)
   written-holds =
       let w : n ≤ length xs = o .addresses .within in
       let c : addresses (put (cellsOf n xs ns) a v) ≡ take n xs = stored-found n xs ns (o .addresses) (o .level) a i v e .0 in
@@ -264,24 +264,24 @@ module _ (tainted : Bool) (n : ℕ) (xs ns ts : List ℕ) (o : Ordered tainted n
         used = sym (length-take-le n xs w) ∙ ap length (sym c) ∙ length-addresses (put (cellsOf n xs ns) a v);
         addresses = sym (ap (λ (z : List ℕ). overlay z xs) c ∙ overlay-taken n xs w);
         numbers = contents-written ns v (o .level);
-        taints = taints-written tainted refl;
+        marks = marks-written guarded refl;
       }
 
 -- a new one is put in where it would go
-pub inserted-holds : (tainted : Bool) (n : ℕ) (xs ns ts : List ℕ) → Ordered tainted n xs ns ts → n < length xs → (a v : ℕ) (t : Bool) (i : ℕ)
+pub inserted-holds : (guarded : Bool) (n : ℕ) (xs ns ts : List ℕ) → Ordered guarded n xs ns ts → n < length xs → (a v : ℕ) (t : Bool) (i : ℕ)
     → Found.Absent i ≡ foundOf (take n xs) a → (xs′ ns′ ts′ : List ℕ) → xs′ ≡ overlay (insertAt i a (take n xs)) xs
-    → ns′ ≡ overlay (insertAt i v (take n ns)) ns → (s : Bool) → tainted ≡ s → ts′ ≡ choose s (overlay (insertAt i (bit t) (take n ts)) ts) ts
-    → Holding tainted (put (cellsOf n xs ns) a v) (put (cellsOf n xs ts) a (bit t)) (n + 1) xs ns ts xs′ ns′ ts′
-inserted-holds tainted n xs ns ts o h a v t i e xs′ ns′ ts′ f g s q k =
+    → ns′ ≡ overlay (insertAt i v (take n ns)) ns → (s : Bool) → guarded ≡ s → ts′ ≡ choose s (overlay (insertAt i (bit t) (take n ts)) ts) ts
+    → Holding guarded (put (cellsOf n xs ns) a v) (put (cellsOf n xs ts) a (bit t)) (n + 1) xs ns ts xs′ ns′ ts′
+inserted-holds guarded n xs ns ts o h a v t i e xs′ ns′ ts′ f g s q k =
     let c = stored-absent n xs ns (o .addresses) (o .level) a i v e in
     record {
       used = length-put-in n i a xs h ∙ ap length (sym (c .0)) ∙ length-addresses (put (cellsOf n xs ns) a v);
       addresses = f ∙ ap (λ (z : List ℕ). overlay z xs) (sym (c .0));
       numbers = g ∙ ap (λ (z : List ℕ). overlay z ns) (sym (c .1));
-      taints = k ∙ go s q;
+      marks = k ∙ go s q;
     }
   where
-    go : (s : Bool) → tainted ≡ s
-        → choose s (overlay (insertAt i (bit t) (take n ts)) ts) ts ≡ choose tainted (overlay (contents (put (cellsOf n xs ts) a (bit t))) ts) ts
-    go true q = rw q (ap (λ (z : List ℕ). overlay z ts) (sym (stored-absent n xs ts (o .addresses) (o .taintLevel q) a i (bit t) e .1)))
+    go : (s : Bool) → guarded ≡ s
+        → choose s (overlay (insertAt i (bit t) (take n ts)) ts) ts ≡ choose guarded (overlay (contents (put (cellsOf n xs ts) a (bit t))) ts) ts
+    go true q = rw q (ap (λ (z : List ℕ). overlay z ts) (sym (stored-absent n xs ts (o .addresses) (o .markLevel q) a i (bit t) e .1)))
     go false q = rw q

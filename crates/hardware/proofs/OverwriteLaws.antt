@@ -9,7 +9,7 @@ use lib.Seq.{length-take-le}
 use Rattle.rules.specs.Numbers.{choose, heapEnd, wordEnd}
 use Rattle.rules.specs.Cells.{Cells, put, addresses, contents, cells}
 use Rattle.rules.specs.Step.{overlay}
-use Rattle.rules.specs.Taint.{cleanMany}
+use Rattle.rules.specs.Guarded.{cleanMany}
 use Rattle.rules.proofs.CellLaws.{length-addresses}
 use Rattle.hardware.specs.Buffers.{rank, hasAll, cellsOf, putMany, Rising, Ordered, Holding}
 use Rattle.hardware.specs.Places.{overwritten, zeros}
@@ -98,7 +98,7 @@ unfolding heapEnd wordEnd
 within-words a zero h k = omega arith
 within-words a (suc n) h k = let l : a + suc n ≤ heapEnd = k (omega arith) in omega arith
 
--- many taints are cleared as many zeros are stored
+-- many marks are cleared as many zeros are stored
 pub clean-zeros : (t : Cells ℕ) (a : ℕ) (vs : List ℕ) → cleanMany (cells ℕ) t a vs ≡ putMany t a (zeros vs)
 unfolding cleanMany
 clean-zeros t a [] = refl
@@ -123,17 +123,17 @@ module _ (n : ℕ) (xs bs : List ℕ) (o : Rising n xs) (l : length bs ≡ lengt
       let m : n ≤ length xs = o .within in
       overwritten-used n i vs bs (omega arith) (span-ends n xs o a i e (length vs) h) ∙ ap (λ (z : List ℕ). overlay z bs) (sym (present-cells .1))
 
-module _ (tainted : Bool) (n : ℕ) (xs ns ts : List ℕ) (o : Ordered tainted n xs ns ts) (a i : ℕ) (e : i ≡ rank (take n xs) a) (vs : List ℕ)
+module _ (guarded : Bool) (n : ℕ) (xs ns ts : List ℕ) (o : Ordered guarded n xs ns ts) (a i : ℕ) (e : i ≡ rank (take n xs) a) (vs : List ℕ)
     (h : hasAll (take n xs) a (length vs) ≡ true) where
-  taints-cleared : (s : Bool) → tainted ≡ s
+  marks-cleared : (s : Bool) → guarded ≡ s
       → choose s (overwritten i (zeros vs) ts) ts ≡ choose s (overlay (contents (cleanMany (cells ℕ) (cellsOf n xs ts) a vs)) ts) ts
-  taints-cleared true q =
-      contents-kept n xs ts (o .addresses) (o .taintLevel q) a i e (zeros vs) (ap (hasAll (take n xs) a) (length-zeros vs) ∙ h)
+  marks-cleared true q =
+      contents-kept n xs ts (o .addresses) (o .markLevel q) a i e (zeros vs) (ap (hasAll (take n xs) a) (length-zeros vs) ∙ h)
       ∙ ap (λ (t : Cells ℕ). overlay (contents t) ts) (sym (clean-zeros (cellsOf n xs ts) a vs))
-  taints-cleared false q = refl
+  marks-cleared false q = refl
 
-  pub overwritten-holds : (ns′ ts′ : List ℕ) → ns′ ≡ overwritten i vs ns → ts′ ≡ choose tainted (overwritten i (zeros vs) ts) ts
-      → Holding tainted (putMany (cellsOf n xs ns) a vs) (cleanMany (cells ℕ) (cellsOf n xs ts) a vs) n xs ns ts xs ns′ ts′
+  pub overwritten-holds : (ns′ ts′ : List ℕ) → ns′ ≡ overwritten i vs ns → ts′ ≡ choose guarded (overwritten i (zeros vs) ts) ts
+      → Holding guarded (putMany (cellsOf n xs ns) a vs) (cleanMany (cells ℕ) (cellsOf n xs ts) a vs) n xs ns ts xs ns′ ts′
   overwritten-holds ns′ ts′ f g =
       let w : n ≤ length xs = o .addresses .within in
       let c : addresses (putMany (cellsOf n xs ns) a vs) ≡ take n xs = present-cells n xs ns (o .addresses) (o .level) a i e vs h .0 in
@@ -141,5 +141,5 @@ module _ (tainted : Bool) (n : ℕ) (xs ns ts : List ℕ) (o : Ordered tainted n
         used = sym (length-take-le n xs w) ∙ ap length (sym c) ∙ length-addresses (putMany (cellsOf n xs ns) a vs);
         addresses = sym (ap (λ (z : List ℕ). overlay z xs) c ∙ overlay-taken n xs w);
         numbers = f ∙ contents-kept n xs ns (o .addresses) (o .level) a i e vs h;
-        taints = g ∙ taints-cleared tainted refl;
+        marks = g ∙ marks-cleared guarded refl;
       }

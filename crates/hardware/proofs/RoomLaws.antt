@@ -9,7 +9,7 @@ use lib.Seq.{length-take-le, drop-length, drop-cons, getD-take, take-take}
 use Rattle.rules.specs.Numbers.{choose}
 use Rattle.rules.specs.Cells.{Cells, count, addresses, contents, cells}
 use Rattle.rules.specs.Step.{overlay}
-use Rattle.rules.specs.Taint.{cleanMany}
+use Rattle.rules.specs.Guarded.{cleanMany}
 use Rattle.rules.proofs.CellLaws.{length-addresses}
 use Rattle.hardware.specs.Buffers.{rank, missing, cellsOf, putMany, Rising, Ordered, Holding}
 use Rattle.hardware.specs.Places.{overwritten, zeros, consecutive, spliced, moved}
@@ -117,24 +117,24 @@ count-stored n xs bs o l a vs =
     let m : count (cellsOf n xs bs) ≡ n = sym (length-addresses (cellsOf n xs bs)) ∙ ap length c ∙ length-take-le n xs (o .within) in
     count-putMany (cellsOf n xs bs) a vs (rises-of n xs bs o l) ∙ rw (c, m)
 
-module _ (tainted : Bool) (n : ℕ) (xs ns ts : List ℕ) (o : Ordered tainted n xs ns ts) (a : ℕ) (vs : List ℕ) (low : ℕ)
+module _ (guarded : Bool) (n : ℕ) (xs ns ts : List ℕ) (o : Ordered guarded n xs ns ts) (a : ℕ) (vs : List ℕ) (low : ℕ)
     (e : low ≡ rank (take n xs) a) (h : n + missing (take n xs) a (length vs) ≤ length xs) where
   abbrev high : ℕ
   high = rank (take n xs) (a + length vs)
 
-  taints-filled : (s : Bool) → tainted ≡ s → (ts₁ : List ℕ) → ts₁ ≡ choose s (moved n high (low + length vs) ts) ts
+  marks-filled : (s : Bool) → guarded ≡ s → (ts₁ : List ℕ) → ts₁ ≡ choose s (moved n high (low + length vs) ts) ts
       → choose s (overwritten low (zeros vs) ts₁) ts₁ ≡ choose s (overlay (contents (cleanMany (cells ℕ) (cellsOf n xs ts) a vs)) ts) ts
-  taints-filled true q ts₁ g =
+  marks-filled true q ts₁ g =
       ap (overwritten low (zeros vs)) g
-      ∙ contents-filled n xs ts (o .addresses) (o .taintLevel q) a (length vs) (zeros vs) (sym (length-zeros vs)) low high e refl h
+      ∙ contents-filled n xs ts (o .addresses) (o .markLevel q) a (length vs) (zeros vs) (sym (length-zeros vs)) low high e refl h
       ∙ ap (λ (t : Cells ℕ). overlay (contents t) ts) (sym (clean-zeros (cellsOf n xs ts) a vs))
-  taints-filled false q ts₁ g = g
+  marks-filled false q ts₁ g = g
 
   pub room-holds : (r : ℕ) (xs′ ns₁ ts₁ ns′ ts′ : List ℕ) → r ≡ n + missing (take n xs) a (length vs)
       → xs′ ≡ overlay (spliced low high (consecutive a (length vs)) (take n xs)) xs
-      → ns₁ ≡ moved n high (low + length vs) ns → ts₁ ≡ choose tainted (moved n high (low + length vs) ts) ts
-      → ns′ ≡ overwritten low vs ns₁ → ts′ ≡ choose tainted (overwritten low (zeros vs) ts₁) ts₁
-      → Holding tainted (putMany (cellsOf n xs ns) a vs) (cleanMany (cells ℕ) (cellsOf n xs ts) a vs) r xs ns ts xs′ ns′ ts′
+      → ns₁ ≡ moved n high (low + length vs) ns → ts₁ ≡ choose guarded (moved n high (low + length vs) ts) ts
+      → ns′ ≡ overwritten low vs ns₁ → ts′ ≡ choose guarded (overwritten low (zeros vs) ts₁) ts₁
+      → Holding guarded (putMany (cellsOf n xs ns) a vs) (cleanMany (cells ℕ) (cellsOf n xs ts) a vs) r xs ns ts xs′ ns′ ts′
   room-holds r xs′ ns₁ ts₁ ns′ ts′ u f g k i j =
       let s = splice n xs ns (o .addresses) (o .level) a (length vs) vs refl low high e refl in
       record {
@@ -143,5 +143,5 @@ module _ (tainted : Bool) (n : ℕ) (xs ns ts : List ℕ) (o : Ordered tainted n
         numbers = i
             ∙ ap (overwritten low vs) g
             ∙ contents-filled n xs ns (o .addresses) (o .level) a (length vs) vs refl low high e refl h;
-        taints = j ∙ taints-filled tainted refl ts₁ k;
+        marks = j ∙ marks-filled guarded refl ts₁ k;
       }

@@ -15,11 +15,11 @@ use Rattle.rules.specs.Memory.{Slot, absent, present}
 use Rattle.rules.specs.Cells.{Cells, none, cell, get, count, addresses, contents, cells}
 use Rattle.rules.specs.PlainMap.{isPresent}
 use Rattle.rules.specs.Step.{readMany}
-use Rattle.rules.specs.Taint.{spanTaint}
+use Rattle.rules.specs.Guarded.{spanMark}
 use Rattle.rules.specs.Entry.{risingFrom}
 use Rattle.rules.proofs.BoolLaws.{false-true, and-left, and-right, or-first, or-equal}
 use Rattle.rules.proofs.CellLaws.{length-addresses, length-contents}
-use Rattle.hardware.specs.Buffers.{rank, has, hasAll, anyTaint}
+use Rattle.hardware.specs.Buffers.{rank, has, hasAll, anyMark}
 use Rattle.hardware.proofs.RankLaws.{rising-rest, rising-at, rank-length, has-rank, rank-next}
 
 -- One cell
@@ -94,32 +94,32 @@ module _ (c : Cells ℕ) (r : risingFrom 0 (addresses c) ≡ true) where
       go k true e h = rw (present-get 0 c a r e, k h)
       go k false e h = rw (absent-get c a e)
 
-  pub span-taint : (a n : ℕ) → hasAll (addresses c) a n ≡ true
-      → spanTaint (cells ℕ) c a n ≡ anyTaint (take n (drop (rank (addresses c) a) (contents c)))
-  unfolding spanTaint
-  span-taint a zero h = refl
-  span-taint a (suc n) h =
+  pub span-mark : (a n : ℕ) → hasAll (addresses c) a n ≡ true
+      → spanMark (cells ℕ) c a n ≡ anyMark (take n (drop (rank (addresses c) a) (contents c)))
+  unfolding spanMark
+  span-mark a zero h = refl
+  span-mark a (suc n) h =
       let e : has (addresses c) a ≡ true = and-left (has (addresses c) a) _ h in
-      rw (present-get 0 c a r e, span-taint (suc a) n (and-right (has (addresses c) a) _ h), contents-from a e)
+      rw (present-get 0 c a r e, span-mark (suc a) n (and-right (has (addresses c) a) _ h), contents-from a e)
 
--- The taints of a span, one after the other
+-- The marks of a span, one after the other
 
-pub taints-start : (ts : List ℕ) (at n : ℕ) → anyTaint (take (n - 0) (drop (at + 0) ts)) ≡ anyTaint (take n (drop at ts))
-taints-start ts at n = let m : n - 0 ≡ n = omega arith in let j : at + 0 ≡ at = omega arith in rw (m, j)
+pub marks-start : (ts : List ℕ) (at n : ℕ) → anyMark (take (n - 0) (drop (at + 0) ts)) ≡ anyMark (take n (drop at ts))
+marks-start ts at n = let m : n - 0 ≡ n = omega arith in let j : at + 0 ≡ at = omega arith in rw (m, j)
 
-pub taints-end : (ts : List ℕ) (at n i : ℕ) → n ≤ i → anyTaint (take (n - i) (drop (at + i) ts)) ≡ false
-taints-end ts at n i h = let m : n - i ≡ 0 = omega arith in rw m
+pub marks-end : (ts : List ℕ) (at n i : ℕ) → n ≤ i → anyMark (take (n - i) (drop (at + i) ts)) ≡ false
+marks-end ts at n i h = let m : n - i ≡ 0 = omega arith in rw m
 
 module _ (ts : List ℕ) (at n i : ℕ) (h : i < n) (k : at + n ≤ length ts) where
-  taints-next : anyTaint (take (n - i) (drop (at + i) ts)) ≡ (eqb (getD ts (at + i) 0) 1 || anyTaint (take (n - (i + 1)) (drop (at + (i + 1)) ts)))
-  taints-next =
+  marks-next : anyMark (take (n - i) (drop (at + i) ts)) ≡ (eqb (getD ts (at + i) 0) 1 || anyMark (take (n - (i + 1)) (drop (at + (i + 1)) ts)))
+  marks-next =
       let m : n - i ≡ suc (n - (i + 1)) = omega arith in
       let j : at + (i + 1) ≡ suc (at + i) = omega arith in
       rw (j, m, drop-cons ts (at + i) 0 (omega arith))
 
-  pub taint-here : getD ts (at + i) 0 ≡ 1 → anyTaint (take (n - i) (drop (at + i) ts)) ≡ true
-  taint-here e = taints-next ∙ or-first _ (eq-eqb _ _ e)
+  pub mark-here : getD ts (at + i) 0 ≡ 1 → anyMark (take (n - i) (drop (at + i) ts)) ≡ true
+  mark-here e = marks-next ∙ or-first _ (eq-eqb _ _ e)
 
-  pub taint-behind : (getD ts (at + i) 0 ≡ 1 → ⊥)
-      → anyTaint (take (n - (i + 1)) (drop (at + (i + 1)) ts)) ≡ anyTaint (take (n - i) (drop (at + i) ts))
-  taint-behind e = sym (taints-next ∙ or-equal (ne-eqb _ _ e) refl)
+  pub mark-behind : (getD ts (at + i) 0 ≡ 1 → ⊥)
+      → anyMark (take (n - (i + 1)) (drop (at + (i + 1)) ts)) ≡ anyMark (take (n - i) (drop (at + i) ts))
+  mark-behind e = sym (marks-next ∙ or-equal (ne-eqb _ _ e) refl)

@@ -1,4 +1,4 @@
--- Cells after a store, of one value or of many: how many they are, that their addresses rise, and that taints and numbers keep one
+-- Cells after a store, of one value or of many: how many they are, that their addresses rise, and that marks and numbers keep one
 -- list of addresses; and the rules' store of many, whose refusals do not depend on the cells.
 use Prim.Native.Nat.{ℕ, zero, suc, _+_, _≤_, _<_}
 use mathlib.Core.Path.{_≡_, refl, sym, ap, subst, _∙_}
@@ -15,7 +15,7 @@ use Rattle.rules.specs.Results.{refuse, pass, require}
 use Rattle.rules.specs.Cells.{Cells, none, cell, put, count, addresses, contents, cells, Rising}
 use Rattle.rules.specs.PlainMap.{isPresent}
 use Rattle.rules.specs.Step.{isStorable, storeMany}
-use Rattle.rules.specs.Taint.{cleanMany}
+use Rattle.rules.specs.Guarded.{cleanMany}
 use Rattle.rules.specs.Entry.{risingFrom, every}
 use Rattle.rules.proofs.BoolLaws.{and-left, and-right, and-true}
 use Rattle.rules.proofs.ResultLaws.{refuse-pass, pass-injective, require-pass, pass-require}
@@ -53,7 +53,7 @@ rising-putMany c a (v ∷ vs) h r =
     let k : a + suc (length vs) ≤ heapEnd = h (omega arith) in
     rising-putMany (put c a v) (suc a) vs (λ l. omega arith) (rising-put c a v (omega arith) r)
 
--- Taints beside numbers
+-- Marks beside numbers
 
 pub addresses-put : {A B : Type 0} (t : Cells A) (c : Cells B) (a : ℕ) (x : A) (y : B) → addresses t ≡ addresses c
     → addresses (put t a x) ≡ addresses (put c a y)

@@ -10,7 +10,7 @@ use Rattle.rules.specs.Memory.{Slot, absent, present}
 use Rattle.rules.specs.Cells as Cells
 use Rattle.rules.specs.Cells.{Cells, zipped, get, put, count, cells}
 use Rattle.rules.specs.Step.{overlay}
-use Rattle.rules.specs.Taint.{cellTaint}
+use Rattle.rules.specs.Guarded.{cellMark}
 use Rattle.rules.specs.Entry.{risingFrom}
 use Rattle.hardware.specs.declared.cells.Found.{Found}
 use Rattle.hardware.specs.declared.cells.Found.the-variants as Found
@@ -63,34 +63,34 @@ abbrev pub slotCell : Slot ℕ → Bool → Cell
 slotCell absent t = Cell.Absent
 slotCell (present v) t = Cell.Present v t
 
--- a cell, and in a tainted run its taint
+-- a cell, and in a guarded run its mark
 abbrev pub cellOf : Bool → Cells ℕ → Cells ℕ → ℕ → Cell
-cellOf tainted c t a = slotCell (get c a) (tainted && cellTaint (cells ℕ) t a)
+cellOf guarded c t a = slotCell (get c a) (guarded && cellMark (cells ℕ) t a)
 
 -- the cells with values from an address on
 abbrev pub putMany : Cells ℕ → ℕ → List ℕ → Cells ℕ
 putMany c a [] = c
 putMany c a (v ∷ vs) = putMany (put c a v) (suc a) vs
 
--- is one of the taints set?
-abbrev pub anyTaint : List ℕ → Bool
-anyTaint [] = false
-anyTaint (t ∷ ts) = eqb t 1 || anyTaint ts
+-- is one of the marks set?
+abbrev pub anyMark : List ℕ → Bool
+anyMark [] = false
+anyMark (t ∷ ts) = eqb t 1 || anyMark ts
 
 -- the first n addresses of a buffer rise within stack and heap
 pub record Rising (n : ℕ) (xs : List ℕ) : Type 0 where
   pub within : n ≤ length xs
   pub rises : risingFrom 0 (take n xs) ≡ true
 
--- the buffers of cells, of which the first n are used, have one length; the taints' buffer counts only in a tainted run
-pub record Ordered (tainted : Bool) (n : ℕ) (xs ns ts : List ℕ) : Type 0 where
+-- the buffers of cells, of which the first n are used, have one length; the marks' buffer counts only in a guarded run
+pub record Ordered (guarded : Bool) (n : ℕ) (xs ns ts : List ℕ) : Type 0 where
   pub addresses : Rising n xs
   pub level : length ns ≡ length xs
-  pub taintLevel : tainted ≡ true → length ts ≡ length xs
+  pub markLevel : guarded ≡ true → length ts ≡ length xs
 
--- the buffers afterwards hold the cells c, r in number, and in a tainted run the taints t; behind them stands what stood there
-pub record Holding (tainted : Bool) (c t : Cells ℕ) (r : ℕ) (xs ns ts xs′ ns′ ts′ : List ℕ) : Type 0 where
+-- the buffers afterwards hold the cells c, r in number, and in a guarded run the marks t; behind them stands what stood there
+pub record Holding (guarded : Bool) (c t : Cells ℕ) (r : ℕ) (xs ns ts xs′ ns′ ts′ : List ℕ) : Type 0 where
   pub used : r ≡ count c
   pub addresses : xs′ ≡ overlay (Cells.addresses c) xs
   pub numbers : ns′ ≡ overlay (Cells.contents c) ns
-  pub taints : ts′ ≡ choose tainted (overlay (Cells.contents t) ts) ts
+  pub marks : ts′ ≡ choose guarded (overlay (Cells.contents t) ts) ts

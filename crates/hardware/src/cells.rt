@@ -1,4 +1,4 @@
-// Memory cells: a map from address to number, and in a tainted run to a taint, in buffers whose first `count` elements are used; the
+// Memory cells: a map from address to number, and in a guarded run to a mark, in buffers whose first `count` elements are used; the
 // addresses are strictly rising.
 use crate::tape;
 ghost use mathlib.Core.Path.{_≡_};
@@ -10,10 +10,10 @@ ghost use Rattle.rules.specs.Numbers.{choose, bit, heapEnd, wordEnd};
 ghost use Rattle.rules.specs.Cells as Cells;
 ghost use Rattle.rules.specs.Cells.{put};
 ghost use Rattle.rules.specs.Step.{overlay};
-ghost use Rattle.rules.specs.Taint.{cleanMany};
+ghost use Rattle.rules.specs.Guarded.{cleanMany};
 ghost use Rattle.rules.specs.Entry.{risingFrom};
 ghost use Rattle.hardware.specs.declared.cells.Found.the-variants as Found;
-ghost use Rattle.hardware.specs.Buffers.{rank, lastAtMost, foundOf, spanOf, missing, anyTaint, cellsOf, cellOf, putMany, Rising, Ordered, Holding};
+ghost use Rattle.hardware.specs.Buffers.{rank, lastAtMost, foundOf, spanOf, missing, anyMark, cellsOf, cellOf, putMany, Rising, Ordered, Holding};
 ghost use Rattle.hardware.specs.Places.{insertAt, overwritten, zeros, consecutive, spliced, moved};
 
 // Where an address is, or where it would go.
@@ -22,9 +22,9 @@ pub enum Found {
     Absent(usize),
 }
 
-// What stands at an address. A taint is told only in a tainted run.
+// What stands at an address. A mark is told only in a guarded run.
 pub enum Cell {
-    Present { number: u64, tainted: bool },
+    Present { number: u64, marked: bool },
     Absent,
 }
 
@@ -128,20 +128,20 @@ pub fn find(addresses: &[u64], count: usize, address: u64) -> Found
 
 // Reads a cell.
 pub fn read(
-    tainted: bool,
+    guarded: bool,
     addresses: &[u64],
     numbers: &[u64],
-    taints: &[u64],
+    marks: &[u64],
     count: usize,
     address: u64,
 ) -> Cell
-    requires { ⌜ Ordered tainted count (now addresses) (now numbers) (now taints) ⌝ }
-    ensures { λ r. ⌜ r ≡ cellOf tainted (cellsOf count (now (addresses .entry)) (now (numbers .entry))) (cellsOf count (now (addresses .entry)) (now (taints .entry))) address ⌝ }
+    requires { ⌜ Ordered guarded count (now addresses) (now numbers) (now marks) ⌝ }
+    ensures { λ r. ⌜ r ≡ cellOf guarded (cellsOf count (now (addresses .entry)) (now (numbers .entry))) (cellsOf count (now (addresses .entry)) (now (marks .entry))) address ⌝ }
 {
     match find(addresses, count, address) {
         Found::At(at) => Cell::Present {
             number: numbers[at],
-            tainted: tainted && taints[at] == 1,
+            marked: guarded && marks[at] == 1,
         },
         Found::Absent(_) => Cell::Absent,
     }
@@ -180,14 +180,14 @@ pub fn has_capacity(addresses: &[u64], count: usize, start: u64, n: usize) -> bo
     n - (high - low) <= addresses.len() - count
 }
 
-// Is one of the n cells from a place on tainted?
-pub fn any_tainted(taints: &[u64], at: usize, n: usize) -> bool
-    requires { ⌜ at + n ≤ length (now taints) ⌝ }
-    ensures { λ r. ⌜ r ≡ anyTaint (take n (drop at (now (taints .entry)))) ⌝ }
+// Is one of the n cells from a place on marked?
+pub fn any_marked(marks: &[u64], at: usize, n: usize) -> bool
+    requires { ⌜ at + n ≤ length (now marks) ⌝ }
+    ensures { λ r. ⌜ r ≡ anyMark (take n (drop at (now (marks .entry)))) ⌝ }
 {
     let mut i = 0;
     while i < n {
-        if taints[at + i] == 1 {
+        if marks[at + i] == 1 {
             return true;
         }
         i += 1;
@@ -209,74 +209,74 @@ fn insert_at(buffer: &mut [u64], count: usize, at: usize, v: u64)
     buffer[at] = v;
 }
 
-// Writes a number, and in a tainted run its taint, to the cell at a place.
+// Writes a number, and in a guarded run its mark, to the cell at a place.
 pub fn write_at(
-    tainted: bool,
+    guarded: bool,
     numbers: &mut [u64],
-    taints: &mut [u64],
+    marks: &mut [u64],
     at: usize,
     number: u64,
-    taint: bool,
+    mark: bool,
 )
     requires { ⌜ at < length (now numbers) ⌝ }
-    requires { ⌜ (tainted ≡ true → at < length (now taints)) ⌝ }
+    requires { ⌜ (guarded ≡ true → at < length (now marks)) ⌝ }
     ensures { λ _. ⌜ now (numbers .exit) ≡ set (now (numbers .entry)) at number ⌝ }
-    ensures { λ _. ⌜ now (taints .exit) ≡ choose tainted (set (now (taints .entry)) at (bit taint)) (now (taints .entry)) ⌝ }
+    ensures { λ _. ⌜ now (marks .exit) ≡ choose guarded (set (now (marks .entry)) at (bit mark)) (now (marks .entry)) ⌝ }
 {
     numbers[at] = number;
-    if tainted {
-        taints[at] = taint as u64;
+    if guarded {
+        marks[at] = mark as u64;
     }
 }
 
 // Puts a new cell in at the place where its address would go.
 pub fn insert(
-    tainted: bool,
+    guarded: bool,
     addresses: &mut [u64],
     numbers: &mut [u64],
-    taints: &mut [u64],
+    marks: &mut [u64],
     count: usize,
     at: usize,
     address: u64,
     number: u64,
-    taint: bool,
+    mark: bool,
 )
-    requires { ⌜ Ordered tainted count (now addresses) (now numbers) (now taints) ⌝ }
+    requires { ⌜ Ordered guarded count (now addresses) (now numbers) (now marks) ⌝ }
     requires { ⌜ count < length (now addresses) ⌝ }
     requires { ⌜ Found.Absent at ≡ foundOf (take count (now addresses)) address ⌝ }
-    ensures { λ _. ⌜ Holding tainted (put (cellsOf count (now (addresses .entry)) (now (numbers .entry))) address number)
-        (put (cellsOf count (now (addresses .entry)) (now (taints .entry))) address (bit taint)) (count + 1)
-        (now (addresses .entry)) (now (numbers .entry)) (now (taints .entry)) (now (addresses .exit)) (now (numbers .exit)) (now (taints .exit)) ⌝ }
+    ensures { λ _. ⌜ Holding guarded (put (cellsOf count (now (addresses .entry)) (now (numbers .entry))) address number)
+        (put (cellsOf count (now (addresses .entry)) (now (marks .entry))) address (bit mark)) (count + 1)
+        (now (addresses .entry)) (now (numbers .entry)) (now (marks .entry)) (now (addresses .exit)) (now (numbers .exit)) (now (marks .exit)) ⌝ }
 {
     insert_at(numbers, count, at, number);
     insert_at(addresses, count, at, address);
-    if tainted {
-        insert_at(taints, count, at, taint as u64);
+    if guarded {
+        insert_at(marks, count, at, mark as u64);
     }
 }
 
-// Clears the taints of a part.
-fn clear(taints: &mut [u64])
-    ensures { λ _. ⌜ now (taints .exit) ≡ zeros (now (taints .entry)) ⌝ }
+// Clears the marks of a part.
+fn clear(marks: &mut [u64])
+    ensures { λ _. ⌜ now (marks .exit) ≡ zeros (now (marks .entry)) ⌝ }
 {
     let mut i = 0;
-    while i < taints.len() {
-        taints[i] = 0;
+    while i < marks.len() {
+        marks[i] = 0;
         i += 1;
     }
 }
 
-// Values in the place of the numbers from a place on, untainted in a tainted run.
-fn overwrite(tainted: bool, numbers: &mut [u64], taints: &mut [u64], at: usize, values: &[u64])
+// Values in the place of the numbers from a place on, unmarked in a guarded run.
+fn overwrite(guarded: bool, numbers: &mut [u64], marks: &mut [u64], at: usize, values: &[u64])
     requires { ⌜ at + length (now values) ≤ length (now numbers) ⌝ }
-    requires { ⌜ (tainted ≡ true → length (now taints) ≡ length (now numbers)) ⌝ }
+    requires { ⌜ (guarded ≡ true → length (now marks) ≡ length (now numbers)) ⌝ }
     ensures { λ _. ⌜ now (numbers .exit) ≡ overwritten at (now (values .entry)) (now (numbers .entry)) ⌝ }
-    ensures { λ _. ⌜ now (taints .exit) ≡ choose tainted (overwritten at (zeros (now (values .entry))) (now (taints .entry))) (now (taints .entry)) ⌝ }
+    ensures { λ _. ⌜ now (marks .exit) ≡ choose guarded (overwritten at (zeros (now (values .entry))) (now (marks .entry))) (now (marks .entry)) ⌝ }
 {
     let end = at + values.len();
     tape::write_values(&mut numbers[at..end], values);
-    if tainted {
-        clear(&mut taints[at..end]);
+    if guarded {
+        clear(&mut marks[at..end]);
     }
 }
 
@@ -293,24 +293,24 @@ fn move_up(buffer: &mut [u64], count: usize, from: usize, n: usize)
     }
 }
 
-// The numbers from a place on, and in a tainted run their taints, moved up by n places.
+// The numbers from a place on, and in a guarded run their marks, moved up by n places.
 fn move_contents(
-    tainted: bool,
+    guarded: bool,
     numbers: &mut [u64],
-    taints: &mut [u64],
+    marks: &mut [u64],
     count: usize,
     from: usize,
     n: usize,
 )
     requires { ⌜ from ≤ count ⌝ }
     requires { ⌜ count + n ≤ length (now numbers) ⌝ }
-    requires { ⌜ (tainted ≡ true → length (now taints) ≡ length (now numbers)) ⌝ }
+    requires { ⌜ (guarded ≡ true → length (now marks) ≡ length (now numbers)) ⌝ }
     ensures { λ _. ⌜ now (numbers .exit) ≡ moved count from (from + n) (now (numbers .entry)) ⌝ }
-    ensures { λ _. ⌜ now (taints .exit) ≡ choose tainted (moved count from (from + n) (now (taints .entry))) (now (taints .entry)) ⌝ }
+    ensures { λ _. ⌜ now (marks .exit) ≡ choose guarded (moved count from (from + n) (now (marks .entry))) (now (marks .entry)) ⌝ }
 {
     move_up(numbers, count, from, n);
-    if tainted {
-        move_up(taints, count, from, n);
+    if guarded {
+        move_up(marks, count, from, n);
     }
 }
 
@@ -329,16 +329,16 @@ fn number_cells(addresses: &mut [u64], start: u64)
 // Makes room for the n cells from an address on, at their place `low`; how many cells are used afterwards. What lies behind them moves up
 // once, by as many places as cells are new. Their contents are still to be written.
 fn make_room(
-    tainted: bool,
+    guarded: bool,
     addresses: &mut [u64],
     numbers: &mut [u64],
-    taints: &mut [u64],
+    marks: &mut [u64],
     count: usize,
     low: usize,
     start: u64,
     n: usize,
 ) -> usize
-    requires { ⌜ Ordered tainted count (now addresses) (now numbers) (now taints) ⌝ }
+    requires { ⌜ Ordered guarded count (now addresses) (now numbers) (now marks) ⌝ }
     requires { ⌜ low ≡ rank (take count (now addresses)) start ⌝ }
     requires { ⌜ start + n < wordEnd ⌝ }
     requires { ⌜ count + missing (take count (now addresses)) start n ≤ length (now addresses) ⌝ }
@@ -348,52 +348,52 @@ fn make_room(
         (now (addresses .entry)) ⌝ }
     ensures { λ _. ⌜ now (numbers .exit)
         ≡ moved count (rank (take count (now (addresses .entry))) (start + n)) (low + n) (now (numbers .entry)) ⌝ }
-    ensures { λ _. ⌜ now (taints .exit)
-        ≡ choose tainted (moved count (rank (take count (now (addresses .entry))) (start + n)) (low + n) (now (taints .entry)))
-        (now (taints .entry)) ⌝ }
+    ensures { λ _. ⌜ now (marks .exit)
+        ≡ choose guarded (moved count (rank (take count (now (addresses .entry))) (start + n)) (low + n) (now (marks .entry)))
+        (now (marks .entry)) ⌝ }
 {
     let high = rank_of(&addresses[..count], start + n as u64);
     let new = n - (high - low);
-    move_contents(tainted, numbers, taints, count, high, new);
+    move_contents(guarded, numbers, marks, count, high, new);
     move_up(addresses, count, high, new);
     let end = low + n;
     number_cells(&mut addresses[low..end], start);
     count + new
 }
 
-// Stores values, untainted, to the cells from an address on; how many cells are used afterwards. Where all are present, none is moved.
+// Stores values, unmarked, to the cells from an address on; how many cells are used afterwards. Where all are present, none is moved.
 pub fn store_many(
-    tainted: bool,
+    guarded: bool,
     addresses: &mut [u64],
     numbers: &mut [u64],
-    taints: &mut [u64],
+    marks: &mut [u64],
     count: usize,
     start: u64,
     values: &[u64],
 ) -> usize
-    requires { ⌜ Ordered tainted count (now addresses) (now numbers) (now taints) ⌝ }
+    requires { ⌜ Ordered guarded count (now addresses) (now numbers) (now marks) ⌝ }
     requires { ⌜ (0 < length (now values) → start + length (now values) ≤ heapEnd) ⌝ }
     requires { ⌜ Cells.count (putMany (cellsOf count (now addresses) (now numbers)) start (now values)) ≤ length (now addresses) ⌝ }
-    ensures { λ r. ⌜ Holding tainted (putMany (cellsOf count (now (addresses .entry)) (now (numbers .entry))) start (now (values .entry))) (cleanMany (Cells.cells ℕ) (cellsOf count (now (addresses .entry)) (now (taints .entry))) start (now (values .entry))) r (now (addresses .entry)) (now (numbers .entry)) (now (taints .entry)) (now (addresses .exit)) (now (numbers .exit)) (now (taints .exit)) ⌝ }
+    ensures { λ r. ⌜ Holding guarded (putMany (cellsOf count (now (addresses .entry)) (now (numbers .entry))) start (now (values .entry))) (cleanMany (Cells.cells ℕ) (cellsOf count (now (addresses .entry)) (now (marks .entry))) start (now (values .entry))) r (now (addresses .entry)) (now (numbers .entry)) (now (marks .entry)) (now (addresses .exit)) (now (numbers .exit)) (now (marks .exit)) ⌝ }
 {
     match find_span(addresses, count, start, values.len() as u64) {
         Span::At(at) => {
-            overwrite(tainted, numbers, taints, at, values);
+            overwrite(guarded, numbers, marks, at, values);
             count
         }
         Span::Absent => {
             let low = rank_of(&addresses[..count], start);
             let used = make_room(
-                tainted,
+                guarded,
                 addresses,
                 numbers,
-                taints,
+                marks,
                 count,
                 low,
                 start,
                 values.len(),
             );
-            overwrite(tainted, numbers, taints, low, values);
+            overwrite(guarded, numbers, marks, low, values);
             used
         }
     }

@@ -13,49 +13,49 @@ ghost use lib.ListN.{length, take, drop};
 ghost use Rattle.rules.specs.Numbers.{heapEnd};
 ghost use Rattle.rules.specs.Cells as Cells;
 ghost use Rattle.rules.specs.Step.{overlay};
-ghost use Rattle.rules.specs.Taint.{cleanMany};
+ghost use Rattle.rules.specs.Guarded.{cleanMany};
 ghost use Rattle.hardware.specs.Buffers.{cellsOf, putMany, Ordered, Holding};
 ghost use Rattle.effects.specs.Actions.{meant, Placed};
 ghost use Rattle.effects.specs.Carrying.{part, callValues};
 ghost use Rattle.interpreter.specs.Cores.{coreOf};
-ghost use Rattle.interpreter.specs.Steps.{callAnswer, taintsAfter, clkAfter, coreAfter, Carriable, CarriedOut};
+ghost use Rattle.interpreter.specs.Steps.{callAnswer, marksAfter, clkAfter, coreAfter, Carriable, CarriedOut};
 
-// The registers' taints after one register was written; in a plain run they rest.
-fn taints_after(mode: Mode, register: usize, taint: bool) -> u64
-    requires { ⌜ mode .«register_taints» < 1024 ⌝ }
+// The registers' marks after one register was written; in a plain run they rest.
+fn marks_after(mode: Mode, register: usize, mark: bool) -> u64
+    requires { ⌜ mode .«register_marks» < 1024 ⌝ }
     requires { ⌜ register < 10 ⌝ }
-    ensures { λ r. ⌜ r ≡ taintsAfter mode register taint ⌝ }
+    ensures { λ r. ⌜ r ≡ marksAfter mode register mark ⌝ }
 {
-    if mode.tainted {
-        return operands::taints::with_taint(mode.register_taints, register, taint);
+    if mode.guarded {
+        return operands::marks::with_mark(mode.register_marks, register, mark);
     }
-    mode.register_taints
+    mode.register_marks
 }
 
 // Tape values to cells; how many cells are used afterwards.
 fn load_tape(
-    tainted: bool,
+    guarded: bool,
     addresses: &mut [u64],
     numbers: &mut [u64],
-    taints: &mut [u64],
+    marks: &mut [u64],
     count: usize,
     tape: &[u64],
     from: usize,
     n: usize,
     address: u64,
 ) -> usize
-    requires { ⌜ Ordered tainted count (now addresses) (now numbers) (now taints) ⌝ }
+    requires { ⌜ Ordered guarded count (now addresses) (now numbers) (now marks) ⌝ }
     requires { ⌜ from + n ≤ length (now tape) ⌝ }
     requires { ⌜ (0 < n → address + n ≤ heapEnd) ⌝ }
     requires { ⌜ Cells.count (putMany (cellsOf count (now addresses) (now numbers)) address (part from n (now tape))) ≤ length (now addresses) ⌝ }
-    ensures { λ r. ⌜ Holding tainted (putMany (cellsOf count (now (addresses .entry)) (now (numbers .entry))) address (part from n (now (tape .entry)))) (cleanMany (Cells.cells ℕ) (cellsOf count (now (addresses .entry)) (now (taints .entry))) address (part from n (now (tape .entry)))) r (now (addresses .entry)) (now (numbers .entry)) (now (taints .entry)) (now (addresses .exit)) (now (numbers .exit)) (now (taints .exit)) ⌝ }
+    ensures { λ r. ⌜ Holding guarded (putMany (cellsOf count (now (addresses .entry)) (now (numbers .entry))) address (part from n (now (tape .entry)))) (cleanMany (Cells.cells ℕ) (cellsOf count (now (addresses .entry)) (now (marks .entry))) address (part from n (now (tape .entry)))) r (now (addresses .entry)) (now (numbers .entry)) (now (marks .entry)) (now (addresses .exit)) (now (numbers .exit)) (now (marks .exit)) ⌝ }
 {
     let end = from + n;
     hardware::cells::store_many(
-        tainted,
+        guarded,
         addresses,
         numbers,
-        taints,
+        marks,
         count,
         address,
         &tape[from..end],
@@ -116,12 +116,12 @@ fn call_contract(
     Answer::Calling(c0, c1, c2, c3)
 }
 
-// Carries an action out: registers, which are the first of the values, and buffers are changed in place, the rest is handed back. `taint`
+// Carries an action out: registers, which are the first of the values, and buffers are changed in place, the rest is handed back. `mark`
 // is that of the registers that the action's number is made of. clk is not looked at: 0 stands for it in what is required, and what is
 // promised holds for any.
 pub(crate) fn carry_out(
     action: Action,
-    taint: bool,
+    mark: bool,
     mode: Mode,
     values: &mut [u64],
     pc: u64,
@@ -129,17 +129,17 @@ pub(crate) fn carry_out(
     counts: Counts,
     addresses: &mut [u64],
     numbers: &mut [u64],
-    taints: &mut [u64],
+    marks: &mut [u64],
     tape: &mut [u64],
     output: &mut [u64],
 ) -> Stepped
     requires { ⌜ 10 ≤ length (now values) ⌝ }
     requires { ⌜ Placed (take (counts .cells) (now addresses)) action ⌝ }
-    requires { ⌜ Carriable (meant taint action) (coreOf mode (take 10 (now values)) pc 0 counts (now addresses) (now numbers) (now taints) (now tape) (now output)) ⌝ }
-    ensures { λ r. ⌜ ((clk : ℕ) → CarriedOut «storage_addr» (meant taint action) (coreOf mode (take 10 (now (values .entry))) pc clk counts (now (addresses .entry)) (now (numbers .entry)) (now (taints .entry)) (now (tape .entry)) (now (output .entry))) (r .finish) (coreAfter mode r (clkAfter (r .finish) clk) (take 10 (now (values .exit))) (now (addresses .exit)) (now (numbers .exit)) (now (taints .exit)) (now (tape .exit)) (now (output .exit)))) ⌝ }
+    requires { ⌜ Carriable (meant mark action) (coreOf mode (take 10 (now values)) pc 0 counts (now addresses) (now numbers) (now marks) (now tape) (now output)) ⌝ }
+    ensures { λ r. ⌜ ((clk : ℕ) → CarriedOut «storage_addr» (meant mark action) (coreOf mode (take 10 (now (values .entry))) pc clk counts (now (addresses .entry)) (now (numbers .entry)) (now (marks .entry)) (now (tape .entry)) (now (output .entry))) (r .finish) (coreAfter mode r (clkAfter (r .finish) clk) (take 10 (now (values .exit))) (now (addresses .exit)) (now (numbers .exit)) (now (marks .exit)) (now (tape .exit)) (now (output .exit)))) ⌝ }
     ensures { λ _. ⌜ (length (now (values .exit)) ≡ length (now (values .entry))) × (drop 10 (now (values .exit)) ≡ drop 10 (now (values .entry))) ⌝ }
 {
-    let register_taints = mode.register_taints;
+    let register_marks = mode.register_marks;
     let kind = action.kind;
     let place = action.place;
     let count = action.count;
@@ -150,30 +150,30 @@ pub(crate) fn carry_out(
             Stepped {
                 pc: next,
                 counts,
-                register_taints: taints_after(mode, place, action.flag | taint),
+                register_marks: marks_after(mode, place, action.flag | mark),
                 finish: Finish::GoesOn,
             }
         }
         Kind::StoreAt => {
-            hardware::cells::write_at(mode.tainted, numbers, taints, place, action.number, taint);
+            hardware::cells::write_at(mode.guarded, numbers, marks, place, action.number, mark);
             Stepped {
                 pc: next,
                 counts,
-                register_taints,
+                register_marks,
                 finish: Finish::GoesOn,
             }
         }
         Kind::Insert => {
             hardware::cells::insert(
-                mode.tainted,
+                mode.guarded,
                 addresses,
                 numbers,
-                taints,
+                marks,
                 counts.cells,
                 place,
                 action.address,
                 action.number,
-                taint,
+                mark,
             );
             let cells = counts.cells + 1;
             Stepped {
@@ -183,22 +183,22 @@ pub(crate) fn carry_out(
                     tape: counts.tape,
                     output: counts.output,
                 },
-                register_taints,
+                register_marks,
                 finish: Finish::GoesOn,
             }
         }
         Kind::Jump => Stepped {
             pc: next,
             counts,
-            register_taints,
+            register_marks,
             finish: Finish::GoesOn,
         },
         Kind::LoadTape => {
             let cells = load_tape(
-                mode.tainted,
+                mode.guarded,
                 addresses,
                 numbers,
-                taints,
+                marks,
                 counts.cells,
                 tape,
                 place,
@@ -212,7 +212,7 @@ pub(crate) fn carry_out(
                     tape: counts.tape,
                     output: counts.output,
                 },
-                register_taints,
+                register_marks,
                 finish: Finish::GoesOn,
             }
         }
@@ -228,7 +228,7 @@ pub(crate) fn carry_out(
                     tape: tape_count,
                     output: output_count,
                 },
-                register_taints,
+                register_marks,
                 finish: Finish::GoesOn,
             }
         }
@@ -249,27 +249,27 @@ pub(crate) fn carry_out(
                     tape: tape_count,
                     output: 0,
                 },
-                register_taints,
+                register_marks,
                 finish: Finish::Leaves(answer),
             }
         }
         Kind::End => Stepped {
             pc: next,
             counts,
-            register_taints,
+            register_marks,
             finish: Finish::Leaves(Answer::Ended),
         },
         Kind::Refuse(refusal) => Stepped {
             pc,
             counts,
-            register_taints,
+            register_marks,
             finish: Finish::Refuses(Answer::Refused(refusal)),
         },
         Kind::Sink => Stepped {
             pc,
             counts,
-            register_taints,
-            finish: Finish::Refuses(Answer::TaintedSink),
+            register_marks,
+            finish: Finish::Refuses(Answer::MarkedSink),
         },
     }
 }

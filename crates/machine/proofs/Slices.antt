@@ -18,12 +18,12 @@ Slices = Slice × (Slice × (Slice × (Slice × (Slice × Unit {0}))))
 abbrev pub slices-at : Slices → List Val × (List Val × (List Val × (List Val × (List Val × Unit {0}))))
 slices-at (a, (b, (c, (d, (e, _))))) = (slice-vals a, (slice-vals b, (slice-vals c, (slice-vals d, (slice-vals e, tt)))))
 
--- words, addresses, numbers, taints, tape, output
-abbrev pub TaintedSlices : Type 0
-TaintedSlices = Slice × Slices
+-- words, addresses, numbers, marks, tape, output
+abbrev pub GuardedSlices : Type 0
+GuardedSlices = Slice × Slices
 
-abbrev pub tainted-slices-at : TaintedSlices → List Val × (List Val × (List Val × (List Val × (List Val × (List Val × Unit {0})))))
-tainted-slices-at (a, ss) = (slice-vals a, slices-at ss)
+abbrev pub guarded-slices-at : GuardedSlices → List Val × (List Val × (List Val × (List Val × (List Val × (List Val × Unit {0})))))
+guarded-slices-at (a, ss) = (slice-vals a, slices-at ss)
 
 -- the same for every lifetime
 pub words-tell : Tells (ShrSlice erased [] u64) (Is (ShrSlice erased [] u64)) slice-vals

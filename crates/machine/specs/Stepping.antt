@@ -3,20 +3,20 @@ use Prim.Native.Nat.{ℕ}
 use mathlib.Core.List.{List}
 use Rattle.rules.specs.declared.Machine.{Machine}
 use Rattle.rules.specs.Answers.{meaning}
-use Rattle.rules.specs.Entry.{Snapshot, TaintedSnapshot}
+use Rattle.rules.specs.Entry.{Snapshot, GuardedSnapshot}
 use Rattle.rules.specs.Calls.{Called}
 use Rattle.executor.specs.Calling.{snapshot}
-use Rattle.tainted.specs.Calling.{snapshot as snapshotWith}
+use Rattle.guarded.specs.Calling.{snapshot as snapshotWith}
 use Rattle.machine.specs.declared.Answered.{Answered}
-use Rattle.machine.specs.declared.TaintedMachine.{TaintedMachine}
+use Rattle.machine.specs.declared.GuardedMachine.{GuardedMachine}
 
 -- the answer by its number and values, the steps, and all that was handed in as it is afterwards
 abbrev pub stepped : Machine → Answered → List ℕ → List ℕ → List ℕ → List ℕ → Called Snapshot
 stepped m r xs ns tape output = record { answer = meaning (r .answer); steps = r .steps; left = snapshot m xs ns tape output }
 
-abbrev pub taintedSnapshot : TaintedMachine → List ℕ → List ℕ → List ℕ → List ℕ → List ℕ → TaintedSnapshot
-taintedSnapshot m = snapshotWith (m .machine) (m .«register_taints»)
+abbrev pub guardedSnapshot : GuardedMachine → List ℕ → List ℕ → List ℕ → List ℕ → List ℕ → GuardedSnapshot
+guardedSnapshot m = snapshotWith (m .machine) (m .«register_marks»)
 
-abbrev pub taintedStepped : TaintedMachine → Answered → List ℕ → List ℕ → List ℕ → List ℕ → List ℕ → Called TaintedSnapshot
-taintedStepped m r xs ns ts tape output =
-    record { answer = meaning (r .answer); steps = r .steps; left = taintedSnapshot m xs ns ts tape output }
+abbrev pub guardedStepped : GuardedMachine → Answered → List ℕ → List ℕ → List ℕ → List ℕ → List ℕ → Called GuardedSnapshot
+guardedStepped m r xs ns ts tape output =
+    record { answer = meaning (r .answer); steps = r .steps; left = guardedSnapshot m xs ns ts tape output }

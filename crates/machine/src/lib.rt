@@ -1,20 +1,20 @@
 // One machine record, stepped where it is kept.
 //
-// Public: `step` over a lent `Machine`, and `tainted_step` over a lent `TaintedMachine`. They take any arguments and check them, as
-// `executor::step_words` and `tainted::step_words` do, whose definitions their contracts name; they touch nothing but the record and the
-// buffers that they are lent. `lend_and_step` and `lend_and_step_tainted` lend a record of their own to these two: they are for callers
+// Public: `step` over a lent `Machine`, and `guarded_step` over a lent `GuardedMachine`. They take any arguments and check them, as
+// `executor::step_words` and `guarded::step_words` do, whose definitions their contracts name; they touch nothing but the record and the
+// buffers that they are lent. `lend_and_step` and `lend_and_step_guarded` lend a record of their own to these two: they are for callers
 // that have a record by value.
 use rules::Answer;
 use rules::Machine;
 ghost use mathlib.Core.Path.{_≡_};
-ghost use Rattle.rules.specs.Calls.{plainWords, taintedWords};
+ghost use Rattle.rules.specs.Calls.{plainWords, guardedWords};
 ghost use Rattle.executor.specs.Calling.{snapshot};
-ghost use Rattle.machine.specs.Stepping.{stepped, taintedSnapshot, taintedStepped};
+ghost use Rattle.machine.specs.Stepping.{stepped, guardedSnapshot, guardedStepped};
 
-// A machine and its registers' taints, bit i for register i.
-pub struct TaintedMachine {
+// A machine and its registers' marks, bit i for register i.
+pub struct GuardedMachine {
     pub machine: Machine,
-    pub register_taints: u64,
+    pub register_marks: u64,
 }
 
 // What a step answered, and the steps done: 1 where the step stands, else 0.
@@ -29,8 +29,8 @@ pub struct Stepped {
     pub answered: Answered,
 }
 
-pub struct TaintedStepped {
-    pub machine: TaintedMachine,
+pub struct GuardedStepped {
+    pub machine: GuardedMachine,
     pub answered: Answered,
 }
 
@@ -93,77 +93,77 @@ pub fn lend_and_step(
     }
 }
 
-// `tainted::step_words`, with its parameters in the order of `tainted_step`.
-fn tainted_step_by_value(
-    machine: TaintedMachine,
+// `guarded::step_words`, with its parameters in the order of `guarded_step`.
+fn guarded_step_by_value(
+    machine: GuardedMachine,
     words: &[u64],
     addresses: &mut [u64],
     numbers: &mut [u64],
-    taints: &mut [u64],
+    marks: &mut [u64],
     tape: &mut [u64],
     output: &mut [u64],
-) -> TaintedStepped
-    ensures { λ r. ⌜ taintedStepped (r .machine) (r .answered) (now (addresses .exit)) (now (numbers .exit)) (now (taints .exit)) (now (tape .exit)) (now (output .exit)) ≡ taintedWords (now (words .entry)) 1 (taintedSnapshot machine (now (addresses .entry)) (now (numbers .entry)) (now (taints .entry)) (now (tape .entry)) (now (output .entry))) ⌝ }
+) -> GuardedStepped
+    ensures { λ r. ⌜ guardedStepped (r .machine) (r .answered) (now (addresses .exit)) (now (numbers .exit)) (now (marks .exit)) (now (tape .exit)) (now (output .exit)) ≡ guardedWords (now (words .entry)) 1 (guardedSnapshot machine (now (addresses .entry)) (now (numbers .entry)) (now (marks .entry)) (now (tape .entry)) (now (output .entry))) ⌝ }
 {
     let plain = machine.machine;
-    let called = tainted::step_words(
+    let called = guarded::step_words(
         words,
         plain,
-        machine.register_taints,
+        machine.register_marks,
         addresses,
         numbers,
-        taints,
+        marks,
         tape,
         output,
     );
     let answer = called.answer;
     let left = called.machine;
-    let tainted_left = TaintedMachine {
+    let guarded_left = GuardedMachine {
         machine: left,
-        register_taints: called.register_taints,
+        register_marks: called.register_marks,
     };
     let answered = Answered {
         answer,
         steps: called.steps,
     };
-    TaintedStepped {
-        machine: tainted_left,
+    GuardedStepped {
+        machine: guarded_left,
         answered,
     }
 }
 
-// Takes one tainted step of a program of bare words, where the machine and its registers' taints are kept.
-pub fn tainted_step(
-    machine: &mut TaintedMachine,
+// Takes one guarded step of a program of bare words, where the machine and its registers' marks are kept.
+pub fn guarded_step(
+    machine: &mut GuardedMachine,
     words: &[u64],
     addresses: &mut [u64],
     numbers: &mut [u64],
-    taints: &mut [u64],
+    marks: &mut [u64],
     tape: &mut [u64],
     output: &mut [u64],
 ) -> Answered
-    ensures { λ r. ⌜ taintedStepped (now (machine .exit)) r (now (addresses .exit)) (now (numbers .exit)) (now (taints .exit)) (now (tape .exit)) (now (output .exit)) ≡ taintedWords (now (words .entry)) 1 (taintedSnapshot (now (machine .entry)) (now (addresses .entry)) (now (numbers .entry)) (now (taints .entry)) (now (tape .entry)) (now (output .entry))) ⌝ }
+    ensures { λ r. ⌜ guardedStepped (now (machine .exit)) r (now (addresses .exit)) (now (numbers .exit)) (now (marks .exit)) (now (tape .exit)) (now (output .exit)) ≡ guardedWords (now (words .entry)) 1 (guardedSnapshot (now (machine .entry)) (now (addresses .entry)) (now (numbers .entry)) (now (marks .entry)) (now (tape .entry)) (now (output .entry))) ⌝ }
 {
-    let after = tainted_step_by_value(*machine, words, addresses, numbers, taints, tape, output);
+    let after = guarded_step_by_value(*machine, words, addresses, numbers, marks, tape, output);
     *machine = after.machine;
     after.answered
 }
 
-// Steps a tainted machine by value: lends it to `tainted_step`.
-pub fn lend_and_step_tainted(
-    machine: TaintedMachine,
+// Steps a guarded machine by value: lends it to `guarded_step`.
+pub fn lend_and_step_guarded(
+    machine: GuardedMachine,
     words: &[u64],
     addresses: &mut [u64],
     numbers: &mut [u64],
-    taints: &mut [u64],
+    marks: &mut [u64],
     tape: &mut [u64],
     output: &mut [u64],
-) -> TaintedStepped
-    ensures { λ r. ⌜ taintedStepped (r .machine) (r .answered) (now (addresses .exit)) (now (numbers .exit)) (now (taints .exit)) (now (tape .exit)) (now (output .exit)) ≡ taintedWords (now (words .entry)) 1 (taintedSnapshot machine (now (addresses .entry)) (now (numbers .entry)) (now (taints .entry)) (now (tape .entry)) (now (output .entry))) ⌝ }
+) -> GuardedStepped
+    ensures { λ r. ⌜ guardedStepped (r .machine) (r .answered) (now (addresses .exit)) (now (numbers .exit)) (now (marks .exit)) (now (tape .exit)) (now (output .exit)) ≡ guardedWords (now (words .entry)) 1 (guardedSnapshot machine (now (addresses .entry)) (now (numbers .entry)) (now (marks .entry)) (now (tape .entry)) (now (output .entry))) ⌝ }
 {
     let mut record = machine;
-    let answered = tainted_step(&mut record, words, addresses, numbers, taints, tape, output);
-    TaintedStepped {
+    let answered = guarded_step(&mut record, words, addresses, numbers, marks, tape, output);
+    GuardedStepped {
         machine: record,
         answered,
     }

@@ -4,4 +4,4 @@ pub mod Slots
 pub mod Filling
 pub mod Preparing
 pub mod Computing
-pub mod TaintBits
+pub mod MarkBits

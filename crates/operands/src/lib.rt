@@ -1,8 +1,8 @@
-// The operands of an instruction that have to be computed or are refused, and the taints of registers.
+// The operands of an instruction that have to be computed or are refused, and the marks of registers.
 //
-// Internal, for the crates above: `values::compute`, `taints::{is_any, with_taint}`.
+// Internal, for the crates above: `values::compute`, `marks::{is_any, with_mark}`.
 pub mod opcodes;
-pub mod taints;
+pub mod marks;
 pub mod values;
 
 use rules::Refusal;

@@ -22,7 +22,7 @@ pub fn label_of(answer: Answer) -> Label
         Answer::DelegateCalling(_, _, _, _) => Label::Outcome(2),
         Answer::Paused => Label::Outcome(3),
         Answer::Refused(refusal) => refusal_label(refusal),
-        Answer::TaintedSink => Label::Refusal(18),
+        Answer::MarkedSink => Label::Refusal(18),
     }
 }
 

@@ -5,9 +5,9 @@ use Rattle.rules.specs.Cases.{starred, StarredHold, others, OthersHold, 
 use Rattle.rules.specs.RefusalOrder.{endLines, zeroLines, entryOrder, EntryOrderHolds, operandOrder, OperandOrderHolds, operationOrder, OperationOrderHolds, readingOrder, ReadingOrderHolds}
 use Rattle.rules.specs.StoreOrder.{tapeOrder, TapeOrderHolds, storeOrder, StoreOrderHolds, clockOrder, ClockOrderHolds}
 use Rattle.rules.specs.SinkOrder.{operandsBeforeSinks, OperandsBeforeSinksHold, sinksBeforeRest, SinksBeforeRestHold, readSinks, ReadSinksHold, sinkAtClock, SinkAtClockHolds}
-use Rattle.rules.specs.EntryRefusals.{wordRefusals, WordRefusalsHold, TextRefusalsHold, stateRefusals, taintRefusals, StateRefusalsHold}
+use Rattle.rules.specs.EntryRefusals.{wordRefusals, WordRefusalsHold, TextRefusalsHold, stateRefusals, markRefusals, StateRefusalsHold}
 use Rattle.rules.specs.StepRefusals.{operandRefusals, OperandRefusalsHold, memoryRefusals, MemoryRefusalsHold, outcomes, OutcomesHold}
-use Rattle.rules.specs.StepCases.{results, lengths, ResultsHold, taintResults, TaintResultsHold, listingWithoutEnd, PrintsHold}
+use Rattle.rules.specs.StepCases.{results, lengths, ResultsHold, markResults, MarkResultsHold, listingWithoutEnd, PrintsHold}
 use Rattle.rules.proofs.Unfolding.{calling, printing}
 
 -- Document 01's cases: Cases.antt
@@ -92,7 +92,7 @@ textRefusalsHold =
     (refl, refl, refl, refl, refl, refl, refl, refl, refl, refl, refl, refl, refl, refl, refl, refl, refl, refl, refl, refl, refl, refl, refl, refl, refl)
 
 pub stateRefusalsHold : StateRefusalsHold
-unfolding calling stateRefusals taintRefusals
+unfolding calling stateRefusals markRefusals
 stateRefusalsHold = (refl, refl)
 
 pub operandRefusalsHold : OperandRefusalsHold
@@ -113,9 +113,9 @@ pub resultsHold : ResultsHold
 unfolding calling results lengths
 resultsHold = (refl, refl)
 
-pub taintResultsHold : TaintResultsHold
-unfolding calling taintResults
-taintResultsHold = refl
+pub markResultsHold : MarkResultsHold
+unfolding calling markResults
+markResultsHold = refl
 
 pub printsHold : PrintsHold
 unfolding printing endLines listingWithoutEnd

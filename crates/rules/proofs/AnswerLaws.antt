@@ -43,8 +43,8 @@ refusals vs =
 -- the answer of a meaning; 18 is the one past the list's end
 answerOf : Meaning → Answer
 answerOf (outcome n vs) = getD (outcomes vs) n A.Ended
-answerOf (refusal ℕ.zero vs) = A.TaintedSink
-answerOf (refusal (ℕ.suc n) vs) = getD (map A.Refused (refusals vs)) n A.TaintedSink
+answerOf (refusal ℕ.zero vs) = A.MarkedSink
+answerOf (refusal (ℕ.suc n) vs) = getD (map A.Refused (refusals vs)) n A.MarkedSink
 
 refusal-back : (f : Refusal) → answerOf (refusalMeaning f) ≡ A.Refused f
 unfolding answerOf refusals refusalMeaning
@@ -73,7 +73,7 @@ answer-back (A.Calling a b c d) = refl
 answer-back (A.DelegateCalling a b c d) = refl
 answer-back A.Paused = refl
 answer-back (A.Refused f) = refusal-back f
-answer-back A.TaintedSink = refl
+answer-back A.MarkedSink = refl
 
 pub meaning-injective : (a b : Answer) → meaning a ≡ meaning b → a ≡ b
 meaning-injective a b h = sym (answer-back a) ∙ (ap answerOf h ∙ answer-back b)
@@ -91,16 +91,16 @@ pub refusal-not-paused : (f : Refusal) → refusalMeaning f ≡ outcome 3 [] →
 unfolding meaning
 refusal-not-paused f h = let e : A.Refused f ≡ A.Paused = paused-answer (A.Refused f) h in let z : _≡_ {A = ℕ} 0 1 = cc in omega arith
 
-pub sink-meaning : meaning A.TaintedSink ≡ refusal 18 []
+pub sink-meaning : meaning A.MarkedSink ≡ refusal 18 []
 unfolding meaning
 sink-meaning = refl
 
-pub sink-answer : (a : Answer) → meaning a ≡ refusal 18 [] → a ≡ A.TaintedSink
-sink-answer a h = meaning-injective a A.TaintedSink (h ∙ sym sink-meaning)
+pub sink-answer : (a : Answer) → meaning a ≡ refusal 18 [] → a ≡ A.MarkedSink
+sink-answer a h = meaning-injective a A.MarkedSink (h ∙ sym sink-meaning)
 
 pub refusal-not-sink : (f : Refusal) → refusalMeaning f ≡ refusal 18 [] → ⊥
 unfolding meaning
-refusal-not-sink f h = let e : A.Refused f ≡ A.TaintedSink = sink-answer (A.Refused f) h in let z : _≡_ {A = ℕ} 0 1 = cc in omega arith
+refusal-not-sink f h = let e : A.Refused f ≡ A.MarkedSink = sink-answer (A.Refused f) h in let z : _≡_ {A = ℕ} 0 1 = cc in omega arith
 
 -- refusal 2 carries one number
 

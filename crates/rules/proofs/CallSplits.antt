@@ -13,25 +13,25 @@ use Rattle.rules.specs.Numbers.{clockEnd, choose}
 use Rattle.rules.specs.Results.{Result, refuse, pass}
 use Rattle.rules.specs.Cells.{Cells, count, addresses, contents, cells}
 use Rattle.rules.specs.Step.{Environment, State, Ran, overlay, run}
-use Rattle.rules.specs.Taint.{TaintedState, taintedRun}
+use Rattle.rules.specs.Guarded.{GuardedState, guardedRun}
 use Rattle.rules.specs.Answers.{outcome, meaning}
-use Rattle.rules.specs.Entry.{Snapshot, TaintedSnapshot, wordOfBits, plainEntry, taintedEntry, environment, stateOf, taintedStateOf, snapshotAfter, taintedSnapshotAfter}
-use Rattle.rules.specs.Calls.{plainRunOf, plainAnswered, taintedRunOf, taintedAnswered, refused, plainCall, taintedCall}
+use Rattle.rules.specs.Entry.{Snapshot, GuardedSnapshot, wordOfBits, plainEntry, guardedEntry, environment, stateOf, guardedStateOf, snapshotAfter, guardedSnapshotAfter}
+use Rattle.rules.specs.Calls.{plainRunOf, plainAnswered, guardedRunOf, guardedAnswered, refused, plainCall, guardedCall}
 use Rattle.rules.specs.Relations.{BothRan}
-use Rattle.rules.specs.Soundness.{Sound, TaintedSound}
-use Rattle.rules.specs.Resumption.{resumed, taintedResumed, Resumable, TaintedResumable}
+use Rattle.rules.specs.Soundness.{Sound, GuardedSound}
+use Rattle.rules.specs.Resumption.{resumed, guardedResumed, Resumable, GuardedResumable}
 use Rattle.rules.specs.SplitCalls.{afterSteps, SplitCalls}
 use Rattle.rules.proofs.CellLaws.{length-addresses, length-contents}
 use Rattle.rules.proofs.OverlayLaws.{overlay-same, overlay-overlay, overlay-covers}
 use Rattle.rules.proofs.EntryLaws.{all-at}
 use Rattle.rules.proofs.AnswerLaws.{refusal-not-paused, paused-answer}
 use Rattle.rules.proofs.PlainSoundness.{run-sound}
-use Rattle.rules.proofs.TaintedSoundness.{tainted-run-sound}
-use Rattle.rules.proofs.EntrySoundness.{entry-sound, tainted-entry-sound}
-use Rattle.rules.proofs.Resuming.{resumable, tainted-resumable}
-use Rattle.rules.proofs.Growth.{Grown, run-grows, tainted-run-grows}
-use Rattle.rules.proofs.RunSplits.{joined, run-splits, run-goes-on, tainted-run-splits, tainted-run-goes-on}
-use Rattle.rules.proofs.WrittenBehind.{withWritten, Behind, behind, TaintedBehind, tainted-behind, run-behind, tainted-run-behind}
+use Rattle.rules.proofs.GuardedSoundness.{guarded-run-sound}
+use Rattle.rules.proofs.EntrySoundness.{entry-sound, guarded-entry-sound}
+use Rattle.rules.proofs.Resuming.{resumable, guarded-resumable}
+use Rattle.rules.proofs.Growth.{Grown, run-grows, guarded-run-grows}
+use Rattle.rules.proofs.RunSplits.{joined, run-splits, run-goes-on, guarded-run-splits, guarded-run-goes-on}
+use Rattle.rules.proofs.WrittenBehind.{withWritten, Behind, behind, GuardedBehind, guarded-behind, run-behind, guarded-run-behind}
 
 -- What a second call leaves lies over all that the first one left
 
@@ -102,85 +102,85 @@ module _ (program : List Instruction) (s : Snapshot) (ten : length (s .machine .
       ∙ ap (λ r. afterSteps (first .steps) (plainAnswered (snapshotAfter s (first .state)) r)) (sym second)
       ∙ ap (afterSteps (first .steps)) (sym (plain-passes program (snapshotAfter s (first .state)) n enters))
 
--- The tainted call
+-- The guarded call
 
-tainted-twice : (g : TaintedSnapshot) (q : TaintedState (cells ℕ)) {r x : TaintedState (cells ℕ)} → Grown (q .plain) (r .plain) → count (q .taints .cells) ≤ count (r .taints .cells)
-    → TaintedBehind (q .plain .written) r x → taintedSnapshotAfter g r ≡ taintedSnapshotAfter (taintedSnapshotAfter g q) x
-tainted-twice g q h l (tainted-behind {u = u} b) =
+guarded-twice : (g : GuardedSnapshot) (q : GuardedState (cells ℕ)) {r x : GuardedState (cells ℕ)} → Grown (q .plain) (r .plain) → count (q .marks .cells) ≤ count (r .marks .cells)
+    → GuardedBehind (q .plain .written) r x → guardedSnapshotAfter g r ≡ guardedSnapshotAfter (guardedSnapshotAfter g q) x
+guarded-twice g q h l (guarded-behind {u = u} b) =
     λ i.
     record {
       plain = left-twice (g .plain) h b i;
-      taints = sym (covered contents length-contents (q .taints .cells) (u .cells) (g .taints) l) i;
-      registerTaints = wordOfBits (u .registers);
+      marks = sym (covered contents length-contents (q .marks .cells) (u .cells) (g .marks) l) i;
+      registerMarks = wordOfBits (u .registers);
     }
 
-tainted-passes : (program : List Instruction) (g : TaintedSnapshot) (n : ℕ) → taintedEntry g ≡ true
-    → taintedCall (pass program) n g ≡ taintedAnswered g (taintedRunOf program n g)
-unfolding taintedCall
-tainted-passes program g n h = ap (λ b. choose b (taintedAnswered g (taintedRunOf program n g)) (refused BadState g)) h
+guarded-passes : (program : List Instruction) (g : GuardedSnapshot) (n : ℕ) → guardedEntry g ≡ true
+    → guardedCall (pass program) n g ≡ guardedAnswered g (guardedRunOf program n g)
+unfolding guardedCall
+guarded-passes program g n h = ap (λ b. choose b (guardedAnswered g (guardedRunOf program n g)) (refused BadState g)) h
 
--- as many taints as cells
-taint-count : {e : Environment} {q : TaintedState (cells ℕ)} → TaintedSound e q → count (q .taints .cells) ≡ count (q .plain .cells)
-taint-count {q = q} h = sym (length-addresses (q .taints .cells)) ∙ ap length (h .addresses) ∙ length-addresses (q .plain .cells)
+-- as many marks as cells
+mark-count : {e : Environment} {q : GuardedState (cells ℕ)} → GuardedSound e q → count (q .marks .cells) ≡ count (q .plain .cells)
+mark-count {q = q} h = sym (length-addresses (q .marks .cells)) ∙ ap length (h .addresses) ∙ length-addresses (q .plain .cells)
 
-module _ (program : List Instruction) (g : TaintedSnapshot) (ten : length (g .plain .machine .registers) ≡ 10) (passes : taintedEntry g ≡ true) (m n : ℕ) (paused : taintedRunOf program m g .answer ≡ Paused) where
+module _ (program : List Instruction) (g : GuardedSnapshot) (ten : length (g .plain .machine .registers) ≡ 10) (passes : guardedEntry g ≡ true) (m n : ℕ) (paused : guardedRunOf program m g .answer ≡ Paused) where
   abbrev there : Environment
   there = environment program (g .plain)
 
-  abbrev tainted-first : Ran (TaintedState (cells ℕ))
-  tainted-first = taintedRunOf program m g
+  abbrev guarded-first : Ran (GuardedState (cells ℕ))
+  guarded-first = guardedRunOf program m g
 
-  tainted-sound : TaintedSound there (tainted-first .state)
-  tainted-sound = tainted-run-sound there m (taintedStateOf g) (tainted-entry-sound program g ten passes)
+  guarded-sound : GuardedSound there (guarded-first .state)
+  guarded-sound = guarded-run-sound there m (guardedStateOf g) (guarded-entry-sound program g ten passes)
 
-  tainted-again : TaintedResumable program g (tainted-first .state)
-  tainted-again = tainted-resumable program g (tainted-first .state) passes tainted-sound
+  guarded-again : GuardedResumable program g (guarded-first .state)
+  guarded-again = guarded-resumable program g (guarded-first .state) passes guarded-sound
 
-  tainted-clock : stateOf (g .plain) .clk < clockEnd
-  unfolding taintedEntry plainEntry
-  tainted-clock = ltb-true _ _ (all-at _ (all-at _ passes 0) 0)
+  guarded-clock : stateOf (g .plain) .clk < clockEnd
+  unfolding guardedEntry plainEntry
+  guarded-clock = ltb-true _ _ (all-at _ (all-at _ passes 0) 0)
 
-  tainted-enters : taintedEntry (taintedSnapshotAfter g (tainted-first .state)) ≡ true
-  tainted-enters = tainted-again .entry (tainted-run-goes-on (cells ℕ) there m (taintedStateOf g) tainted-clock paused)
+  guarded-enters : guardedEntry (guardedSnapshotAfter g (guarded-first .state)) ≡ true
+  guarded-enters = guarded-again .entry (guarded-run-goes-on (cells ℕ) there m (guardedStateOf g) guarded-clock paused)
 
-  tainted-second : taintedRunOf program n (taintedSnapshotAfter g (tainted-first .state)) ≡ taintedRun (cells ℕ) there n (taintedResumed (tainted-first .state))
-  tainted-second = λ i. taintedRun (cells ℕ) (tainted-again .plain .environment i) n (tainted-again .state i)
+  guarded-second : guardedRunOf program n (guardedSnapshotAfter g (guarded-first .state)) ≡ guardedRun (cells ℕ) there n (guardedResumed (guarded-first .state))
+  guarded-second = λ i. guardedRun (cells ℕ) (guarded-again .plain .environment i) n (guarded-again .state i)
 
-  tainted-joined : (r q : Ran (TaintedState (cells ℕ))) → Grown (tainted-first .state .plain) (r .state .plain)
-      → count (tainted-first .state .taints .cells) ≤ count (r .state .taints .cells)
-      → BothRan (TaintedBehind (tainted-first .state .plain .written)) r q
-      → taintedAnswered g (joined tainted-first r) ≡ afterSteps (tainted-first .steps) (taintedAnswered (taintedSnapshotAfter g (tainted-first .state)) q)
-  tainted-joined r q h l b =
-      λ i. record { answer = meaning (b .answer i); steps = tainted-first .steps + b .steps i; left = tainted-twice g (tainted-first .state) h l (b .state) i }
+  guarded-joined : (r q : Ran (GuardedState (cells ℕ))) → Grown (guarded-first .state .plain) (r .state .plain)
+      → count (guarded-first .state .marks .cells) ≤ count (r .state .marks .cells)
+      → BothRan (GuardedBehind (guarded-first .state .plain .written)) r q
+      → guardedAnswered g (joined guarded-first r) ≡ afterSteps (guarded-first .steps) (guardedAnswered (guardedSnapshotAfter g (guarded-first .state)) q)
+  guarded-joined r q h l b =
+      λ i. record { answer = meaning (b .answer i); steps = guarded-first .steps + b .steps i; left = guarded-twice g (guarded-first .state) h l (b .state) i }
 
-  tainted-grown : Grown (tainted-first .state .plain) (taintedRun (cells ℕ) there n (tainted-first .state) .state .plain)
-  tainted-grown = tainted-run-grows there n (tainted-first .state) (tainted-sound .plain)
+  guarded-grown : Grown (guarded-first .state .plain) (guardedRun (cells ℕ) there n (guarded-first .state) .state .plain)
+  guarded-grown = guarded-run-grows there n (guarded-first .state) (guarded-sound .plain)
 
-  taints-grown : count (tainted-first .state .taints .cells) ≤ count (taintedRun (cells ℕ) there n (tainted-first .state) .state .taints .cells)
-  taints-grown =
-      let a = tainted-grown .cells in
-      omega (arith, taint-count tainted-sound, taint-count (tainted-run-sound there n (tainted-first .state) tainted-sound))
+  marks-grown : count (guarded-first .state .marks .cells) ≤ count (guardedRun (cells ℕ) there n (guarded-first .state) .state .marks .cells)
+  marks-grown =
+      let a = guarded-grown .cells in
+      omega (arith, mark-count guarded-sound, mark-count (guarded-run-sound there n (guarded-first .state) guarded-sound))
 
-  tainted-split : taintedAnswered g (taintedRunOf program (m + n) g)
-      ≡ afterSteps (tainted-first .steps) (taintedCall (pass program) n (taintedSnapshotAfter g (tainted-first .state)))
-  tainted-split =
-      ap (taintedAnswered g) (tainted-run-splits (cells ℕ) there m n (taintedStateOf g) paused)
-      ∙ tainted-joined (taintedRun (cells ℕ) there n (tainted-first .state)) (taintedRun (cells ℕ) there n (taintedResumed (tainted-first .state)))
-      tainted-grown
-      taints-grown
-      (tainted-run-behind (tainted-first .state .plain .written) there n (tainted-first .state) (taintedResumed (tainted-first .state))
-      (tainted-behind (resumed-behind (tainted-first .state .plain) (tainted-sound .plain))))
-      ∙ ap (λ r. afterSteps (tainted-first .steps) (taintedAnswered (taintedSnapshotAfter g (tainted-first .state)) r)) (sym tainted-second)
-      ∙ ap (afterSteps (tainted-first .steps)) (sym (tainted-passes program (taintedSnapshotAfter g (tainted-first .state)) n tainted-enters))
+  guarded-split : guardedAnswered g (guardedRunOf program (m + n) g)
+      ≡ afterSteps (guarded-first .steps) (guardedCall (pass program) n (guardedSnapshotAfter g (guarded-first .state)))
+  guarded-split =
+      ap (guardedAnswered g) (guarded-run-splits (cells ℕ) there m n (guardedStateOf g) paused)
+      ∙ guarded-joined (guardedRun (cells ℕ) there n (guarded-first .state)) (guardedRun (cells ℕ) there n (guardedResumed (guarded-first .state)))
+      guarded-grown
+      marks-grown
+      (guarded-run-behind (guarded-first .state .plain .written) there n (guarded-first .state) (guardedResumed (guarded-first .state))
+      (guarded-behind (resumed-behind (guarded-first .state .plain) (guarded-sound .plain))))
+      ∙ ap (λ r. afterSteps (guarded-first .steps) (guardedAnswered (guardedSnapshotAfter g (guarded-first .state)) r)) (sym guarded-second)
+      ∙ ap (afterSteps (guarded-first .steps)) (sym (guarded-passes program (guardedSnapshotAfter g (guarded-first .state)) n guarded-enters))
 
 -- Of any program as loaded: one that is refused, or a start that is, does not pause
 
 pub split-calls : (program : Result (List Instruction)) → SplitCalls program
-unfolding plainCall taintedCall
+unfolding plainCall guardedCall
 split-calls (refuse f) =
-    record { plain = λ m n s ten h. absurd (refusal-not-paused f h); tainted = λ m n g ten h. absurd (refusal-not-paused f h) }
+    record { plain = λ m n s ten h. absurd (refusal-not-paused f h); guarded = λ m n g ten h. absurd (refusal-not-paused f h) }
 split-calls (pass program) =
-    record { plain = λ m n s ten. plain-go m n s ten (plainEntry s) refl; tainted = λ m n g ten. tainted-go m n g ten (taintedEntry g) refl }
+    record { plain = λ m n s ten. plain-go m n s ten (plainEntry s) refl; guarded = λ m n g ten. guarded-go m n g ten (guardedEntry g) refl }
   where
     plain-go : (m n : ℕ) (s : Snapshot) → length (s .machine .registers) ≡ 10 → (b : Bool) → plainEntry s ≡ b
         → choose b (plainAnswered s (plainRunOf program m s)) (refused BadState s) .answer ≡ outcome 3 []
@@ -191,11 +191,11 @@ split-calls (pass program) =
     plain-go m n s ten true k h = plain-split program s ten k m n (paused-answer (plainRunOf program m s .answer) h)
     plain-go m n s ten false k h = absurd (refusal-not-paused BadState h)
 
-    tainted-go : (m n : ℕ) (g : TaintedSnapshot) → length (g .plain .machine .registers) ≡ 10 → (b : Bool) → taintedEntry g ≡ b
-        → choose b (taintedAnswered g (taintedRunOf program m g)) (refused BadState g) .answer ≡ outcome 3 []
-        → choose b (taintedAnswered g (taintedRunOf program (m + n) g)) (refused BadState g)
+    guarded-go : (m n : ℕ) (g : GuardedSnapshot) → length (g .plain .machine .registers) ≡ 10 → (b : Bool) → guardedEntry g ≡ b
+        → choose b (guardedAnswered g (guardedRunOf program m g)) (refused BadState g) .answer ≡ outcome 3 []
+        → choose b (guardedAnswered g (guardedRunOf program (m + n) g)) (refused BadState g)
         ≡ afterSteps
-        (choose b (taintedAnswered g (taintedRunOf program m g)) (refused BadState g) .steps)
-        (taintedCall (pass program) n (choose b (taintedAnswered g (taintedRunOf program m g)) (refused BadState g) .left))
-    tainted-go m n g ten true k h = tainted-split program g ten k m n (paused-answer (taintedRunOf program m g .answer) h)
-    tainted-go m n g ten false k h = absurd (refusal-not-paused BadState h)
+        (choose b (guardedAnswered g (guardedRunOf program m g)) (refused BadState g) .steps)
+        (guardedCall (pass program) n (choose b (guardedAnswered g (guardedRunOf program m g)) (refused BadState g) .left))
+    guarded-go m n g ten true k h = guarded-split program g ten k m n (paused-answer (guardedRunOf program m g .answer) h)
+    guarded-go m n g ten false k h = absurd (refusal-not-paused BadState h)

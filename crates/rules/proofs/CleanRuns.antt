@@ -1,4 +1,4 @@
--- Where no place is tainted, none becomes tainted, and no step reaches a listed use.
+-- Where no place is marked, none becomes guarded, and no step reaches a listed use.
 use Prim.Native.Nat.{ℕ}
 use mathlib.Core.Path.{_≡_, refl, sym, ap, _∙_}
 use mathlib.Core.Bool.{Bool, true, false, _||_}
@@ -13,20 +13,20 @@ use Rattle.rules.specs.Memory.{present}
 use Rattle.rules.specs.Cells.{get, zipped, cells}
 use Rattle.rules.specs.Operands.{Operands}
 use Rattle.rules.specs.Step.{Environment, State}
-use Rattle.rules.specs.Taint.{slotTaint}
-use Rattle.rules.specs.Entry.{TaintedSnapshot, usedAddresses, usedTaints}
-use Rattle.rules.specs.TaintRules.{
+use Rattle.rules.specs.Guarded.{slotMark}
+use Rattle.rules.specs.Entry.{GuardedSnapshot, usedAddresses, usedMarks}
+use Rattle.rules.specs.MarkRules.{
   Place,
   register,
   cell,
-  Tainting,
-  OperandTainted,
+  Marking,
+  OperandMarked,
   of-immediate,
   of-psp,
   of-register,
   of-offset,
   of-factor,
-  TaintedAfter,
+  MarkedAfter,
   result-of-both,
   result-of-one,
   mstore-passes,
@@ -60,21 +60,21 @@ use Rattle.rules.specs.SinkRules.{
   start,
   onward,
 }
-use Rattle.rules.specs.NonInterference.{startTaints, Untainted}
+use Rattle.rules.specs.NonInterference.{startMarks, Unmarked}
 use Rattle.rules.proofs.BoolLaws.{false-true}
 
-abbrev Clean : Tainting → Type 0
+abbrev Clean : Marking → Type 0
 Clean t = (x : Place) → t x ≡ false
 
-clean-operand : {t : Tainting} → Clean t → {o : OlaOperand} {b : Bool} → OperandTainted t o b → b ≡ false
+clean-operand : {t : Marking} → Clean t → {o : OlaOperand} {b : Bool} → OperandMarked t o b → b ≡ false
 clean-operand h of-immediate = refl
 clean-operand h of-psp = refl
 clean-operand h of-register = h _
 clean-operand h of-offset = h _
 clean-operand h of-factor = h _
 
-clean-after : {t : Tainting} → Clean t → {i : Instruction} {s : State (cells ℕ)} {o : Operands} {c : OlaOpcode} {x : Place} {b : Bool}
-    → TaintedAfter t i s o c x b → b ≡ false
+clean-after : {t : Marking} → Clean t → {i : Instruction} {s : State (cells ℕ)} {o : Operands} {c : OlaOpcode} {x : Place} {b : Bool}
+    → MarkedAfter t i s o c x b → b ≡ false
 clean-after h (result-of-both {a = a} {b} f p q) = ap (λ z. z || b) (clean-operand h p) ∙ clean-operand h q
 clean-after h (result-of-one f q) = clean-operand h q
 clean-after h mstore-passes = h _
@@ -84,17 +84,17 @@ clean-after h (tape-value w) = refl
 clean-after h return-pc = refl
 clean-after h (kept w) = h _
 
-clean-comes : {e : Environment} {s s′ : State (cells ℕ)} {t t′ : Tainting} {k : ℕ} → Comes e s t k s′ t′ → Clean t → Clean t′
+clean-comes : {e : Environment} {s s′ : State (cells ℕ)} {t t′ : Marking} {k : ℕ} → Comes e s t k s′ t′ → Clean t → Clean t′
 clean-comes start h = h
-clean-comes (onward a r) h = clean-comes r (λ x. clean-after h (a .taints x))
+clean-comes (onward a r) h = clean-comes r (λ x. clean-after h (a .marks x))
 
-no-operand : {t : Tainting} → Clean t → {o : OlaOperand} → OperandTainted t o true → ⊥
+no-operand : {t : Marking} → Clean t → {o : OlaOperand} → OperandMarked t o true → ⊥
 no-operand h p = false-true (sym (clean-operand h p))
 
-no-place : {t : Tainting} → Clean t → (x : Place) → t x ≡ true → ⊥
+no-place : {t : Marking} → Clean t → (x : Place) → t x ≡ true → ⊥
 no-place h x e = false-true (sym (h x) ∙ e)
 
-no-operand-use : {t : Tainting} → Clean t → {i : Instruction} {c : OlaOpcode} → OperandUse t i c → ⊥
+no-operand-use : {t : Marking} → Clean t → {i : Instruction} {c : OlaOpcode} → OperandUse t i c → ⊥
 no-operand-use h (address-op0 f p) = no-operand h p
 no-operand-use h (address-op1 f p) = no-operand h p
 no-operand-use h (small-op0 f p) = no-operand h p
@@ -106,31 +106,31 @@ no-operand-use h (tape-op0 f p) = no-operand h p
 no-operand-use h (tape-op1 f p) = no-operand h p
 no-operand-use h (tload-dst p) = no-operand h p
 
-no-read-use : {t : Tainting} → Clean t → {i : Instruction} {e : Environment} {s : State (cells ℕ)} {o : Operands} {c : OlaOpcode} → ReadUse t i e s o c → ⊥
+no-read-use : {t : Marking} → Clean t → {i : Instruction} {e : Environment} {s : State (cells ℕ)} {o : Operands} {c : OlaOpcode} → ReadUse t i e s o c → ⊥
 no-read-use h (cjmp-op1 l v p) = no-operand h p
 no-read-use h (tstore-cell v a l u e) = no-place h (cell a) e
 no-read-use h (sccall-cell v a l u e) = no-place h (cell a) e
 no-read-use h (ret-pc v w e) = no-place h _ e
 
-pub clean-reaches : {e : Environment} {s s′ : State (cells ℕ)} {t t′ : Tainting} {k : ℕ} → Comes e s t k s′ t′ → Clean t → ReachesUse e s′ t′ → ⊥
+pub clean-reaches : {e : Environment} {s s′ : State (cells ℕ)} {t t′ : Marking} {k : ℕ} → Comes e s t k s′ t′ → Clean t → ReachesUse e s′ t′ → ⊥
 clean-reaches r h (operand f u) = no-operand-use (clean-comes r h) u
 clean-reaches r h (reading f n u) = no-read-use (clean-comes r h) u
 
--- A snapshot without taints starts clean
+-- A snapshot without marks starts clean
 
-not-tainted : (b : Bool) → (b ≡ true → ⊥) → b ≡ false
-not-tainted true h = absurd (h refl)
-not-tainted false h = refl
+not-marked : (b : Bool) → (b ≡ true → ⊥) → b ≡ false
+not-marked true h = absurd (h refl)
+not-marked false h = refl
 
-clean-cells : (l ts : List ℕ) → ((i : ℕ) → getD (map (λ t. eqb t 1) ts) i false ≡ true → ⊥) → (a : ℕ) → slotTaint (cells ℕ) (get (zipped l ts) a) ≡ false
+clean-cells : (l ts : List ℕ) → ((i : ℕ) → getD (map (λ t. eqb t 1) ts) i false ≡ true → ⊥) → (a : ℕ) → slotMark (cells ℕ) (get (zipped l ts) a) ≡ false
 clean-cells [] ts h a = refl
 clean-cells (b ∷ l) [] h a = refl
 clean-cells (b ∷ l) (t ∷ ts) h a = go (clean-cells l ts (λ i. h (ℕ.suc i)) a) (eqb b a)
   where
-    go : slotTaint (cells ℕ) (get (zipped l ts) a) ≡ false → (c : Bool) → slotTaint (cells ℕ) (choose c (present t) (get (zipped l ts) a)) ≡ false
-    go k true = not-tainted (eqb t 1) (h 0)
+    go : slotMark (cells ℕ) (get (zipped l ts) a) ≡ false → (c : Bool) → slotMark (cells ℕ) (choose c (present t) (get (zipped l ts) a)) ≡ false
+    go k true = not-marked (eqb t 1) (h 0)
     go k false = k
 
-pub clean-start : (g : TaintedSnapshot) → Untainted g → Clean (startTaints g)
-clean-start g u (register r) = not-tainted _ (u .registers r)
-clean-start g u (cell a) = clean-cells (usedAddresses (g .plain)) (usedTaints g) (u .cells) a
+pub clean-start : (g : GuardedSnapshot) → Unmarked g → Clean (startMarks g)
+clean-start g u (register r) = not-marked _ (u .registers r)
+clean-start g u (cell a) = clean-cells (usedAddresses (g .plain)) (usedMarks g) (u .cells) a

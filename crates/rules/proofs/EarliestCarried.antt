@@ -17,14 +17,14 @@ use Rattle.rules.specs.Frames.{valueCount, frameOf, onFrame, framesAfter
 use Rattle.rules.specs.Text.{Line, Job, lineFeed, linesOf, frameOfLine, loadText, loadJob, loadBudgetText}
 use Rattle.rules.specs.Answers.{refusal, refusalMeaning}
 use Rattle.rules.specs.Cells.{cells}
-use Rattle.rules.specs.Entry.{Snapshot, TaintedSnapshot, plainEntry, taintedEntry, environment, stateOf, taintedStateOf}
-use Rattle.rules.specs.Calls.{Called, refused, jobProgram, jobBudget, plainCall, plainWords, plainText, plainBudgetText, taintedCall, taintedWords, taintedText, taintedBudgetText}
+use Rattle.rules.specs.Entry.{Snapshot, GuardedSnapshot, plainEntry, guardedEntry, environment, stateOf, guardedStateOf}
+use Rattle.rules.specs.Calls.{Called, refused, jobProgram, jobBudget, plainCall, plainWords, plainText, plainBudgetText, guardedCall, guardedWords, guardedText, guardedBudgetText}
 use Rattle.rules.specs.Solve.{decimal, zeroFields, field, carriedFields, printed, solveStart, solve}
 use Rattle.rules.specs.MalformedFrames.{MalformedAt, here, further, Earliest, this, later, EarliestIsLeast, Numbered, numberedWords, OneAmongWords, numberedText, jobFrames, malformedJob, numberedBudgetText, Carried, CarriesEarliest, CallsCarryEarliest}
 use Rattle.rules.proofs.BoolLaws.{false-true}
 use Rattle.rules.proofs.ResultLaws.{refuse-pass}
 use Rattle.rules.proofs.AnswerLaws.{malformed-refusal}
-use Rattle.rules.proofs.PastEntry.{isPastEntry, run-past, tainted-run-past}
+use Rattle.rules.proofs.PastEntry.{isPastEntry, run-past, guarded-run-past}
 
 -- The earliest malformed frame
 
@@ -185,12 +185,12 @@ plain-carries f (refuse g) h budget s = as-loaded f s g h
 plain-carries f (pass program) h budget s =
     entered f s _ h (unfit-or-run (plainEntry s) _ s (run-past (cells ℕ) (environment program s) budget (stateOf s)))
 
-tainted-carries : (f : Numbered) (loaded : Result (List Instruction)) → LoadsEarliest f loaded → (budget : ℕ) (g : TaintedSnapshot)
-    → CarriesEarliest f g (taintedCall loaded budget g)
-unfolding taintedCall
-tainted-carries f (refuse r) h budget g = as-loaded f g r h
-tainted-carries f (pass program) h budget g =
-    entered f g _ h (unfit-or-run (taintedEntry g) _ g (tainted-run-past (cells ℕ) (environment program (g .plain)) budget (taintedStateOf g)))
+guarded-carries : (f : Numbered) (loaded : Result (List Instruction)) → LoadsEarliest f loaded → (budget : ℕ) (g : GuardedSnapshot)
+    → CarriesEarliest f g (guardedCall loaded budget g)
+unfolding guardedCall
+guarded-carries f (refuse r) h budget g = as-loaded f g r h
+guarded-carries f (pass program) h budget g =
+    entered f g _ h (unfit-or-run (guardedEntry g) _ g (guarded-run-past (cells ℕ) (environment program (g .plain)) budget (guardedStateOf g)))
 
 budget-text-carries : (text : List ℕ) (s : Snapshot) → CarriesEarliest (numberedBudgetText text) s (plainBudgetText text s)
 unfolding plainBudgetText
@@ -203,16 +203,16 @@ solve-prints text n k =
     ∙ ap (λ (carried : List ℕ). decimal 2 ++ (zeroFields ++ (carried ++ (lineFeed ∷ [])))) (append-nil (field n))
 
 pub calls-carry-earliest : CallsCarryEarliest
-unfolding plainWords plainText taintedWords taintedText taintedBudgetText
+unfolding plainWords plainText guardedWords guardedText guardedBudgetText
 calls-carry-earliest =
     record {
       ofWords = λ words. plain-carries _ _ (words-earliest words);
       ofText = λ text. plain-carries _ _ (text-earliest text);
       ofBudgetText = budget-text-carries;
       ofBudgetTextCheck = λ text. plain-carries _ _ (budget-text-earliest text) 0;
-      ofTaintedWords = λ words. tainted-carries _ _ (words-earliest words);
-      ofTaintedText = λ text. tainted-carries _ _ (text-earliest text);
-      ofTaintedBudgetText = λ text. tainted-carries _ _ (budget-text-earliest text) (jobBudget (loadBudgetText text));
-      ofTaintedBudgetTextCheck = λ text. tainted-carries _ _ (budget-text-earliest text) 0;
+      ofGuardedWords = λ words. guarded-carries _ _ (words-earliest words);
+      ofGuardedText = λ text. guarded-carries _ _ (text-earliest text);
+      ofGuardedBudgetText = λ text. guarded-carries _ _ (budget-text-earliest text) (jobBudget (loadBudgetText text));
+      ofGuardedBudgetTextCheck = λ text. guarded-carries _ _ (budget-text-earliest text) 0;
       solvePrints = solve-prints;
     }

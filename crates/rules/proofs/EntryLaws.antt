@@ -1,4 +1,4 @@
--- The tests of refusal 3, read one by one and put together again; and the word of the registers' taints.
+-- The tests of refusal 3, read one by one and put together again; and the word of the registers' marks.
 use Prim.Native.Nat.{ℕ, zero, suc, _+_, _*_, _/_, _%_, _^_, _<_}
 use mathlib.Core.Path.{_≡_, refl, ap}
 use mathlib.Core.Bool.{Bool, true, false, not, _||_}
@@ -9,7 +9,7 @@ use lib.Dec.{ltb, lit<}
 use lib.ListN.{length, getD}
 use borrow.Author.Tests.{ltb-true, lt-ltb}
 use Rattle.rules.specs.Numbers.{p}
-use Rattle.rules.specs.Entry.{lowBits, wordOfBits, taintedBelow, all}
+use Rattle.rules.specs.Entry.{lowBits, wordOfBits, markedBelow, all}
 use Rattle.rules.proofs.BoolLaws.{false-true, and-left, and-right, and-true}
 
 -- one of the tests
@@ -28,7 +28,7 @@ pub all-more : {b : Bool} (bs : List Bool) → b ≡ true → all bs ≡ true �
 unfolding all
 all-more bs e h = and-true e h
 
--- tainted numbers
+-- marked numbers
 
 below-p : (t : Bool) (n : ℕ) → (not t || ltb n p) ≡ true → t ≡ true → n < p
 below-p true n h e = ltb-true n p h
@@ -42,16 +42,16 @@ zero-below : 0 < p
 unfolding p
 zero-below = lit< tt
 
-pub taintedBelow-at : (ts : List Bool) (ns : List ℕ) → taintedBelow ts ns ≡ true → (i : ℕ) → getD ts i false ≡ true → getD ns i 0 < p
-taintedBelow-at [] ns h i e = absurd (false-true e)
-taintedBelow-at (t ∷ ts) [] h i e = zero-below
-taintedBelow-at (t ∷ ts) (n ∷ ns) h zero e = below-p t n (and-left _ (taintedBelow ts ns) h) e
-taintedBelow-at (t ∷ ts) (n ∷ ns) h (suc i) e = taintedBelow-at ts ns (and-right (not t || ltb n p) _ h) i e
+pub markedBelow-at : (ts : List Bool) (ns : List ℕ) → markedBelow ts ns ≡ true → (i : ℕ) → getD ts i false ≡ true → getD ns i 0 < p
+markedBelow-at [] ns h i e = absurd (false-true e)
+markedBelow-at (t ∷ ts) [] h i e = zero-below
+markedBelow-at (t ∷ ts) (n ∷ ns) h zero e = below-p t n (and-left _ (markedBelow ts ns) h) e
+markedBelow-at (t ∷ ts) (n ∷ ns) h (suc i) e = markedBelow-at ts ns (and-right (not t || ltb n p) _ h) i e
 
-pub taintedBelow-of : (ts : List Bool) (ns : List ℕ) → ((i : ℕ) → getD ts i false ≡ true → getD ns i 0 < p) → taintedBelow ts ns ≡ true
-taintedBelow-of [] ns h = refl
-taintedBelow-of (t ∷ ts) [] h = refl
-taintedBelow-of (t ∷ ts) (n ∷ ns) h = and-true (below-test t n (h 0)) (taintedBelow-of ts ns (λ i. h (suc i)))
+pub markedBelow-of : (ts : List Bool) (ns : List ℕ) → ((i : ℕ) → getD ts i false ≡ true → getD ns i 0 < p) → markedBelow ts ns ≡ true
+markedBelow-of [] ns h = refl
+markedBelow-of (t ∷ ts) [] h = refl
+markedBelow-of (t ∷ ts) (n ∷ ns) h = and-true (below-test t n (h 0)) (markedBelow-of ts ns (λ i. h (suc i)))
 
 -- bits of a word
 

@@ -13,12 +13,12 @@ use Rattle.rules.specs.Numbers.{p, heapEnd, choose}
 use Rattle.rules.specs.Memory.{present}
 use Rattle.rules.specs.Cells.{get, count, addresses, zipped, cells}
 use Rattle.rules.specs.Step.{isStorable}
-use Rattle.rules.specs.Taint.{slotTaint, cellTaint}
-use Rattle.rules.specs.Entry.{Snapshot, TaintedSnapshot, usedAddresses, usedNumbers, usedTaints, usedOutput, taintedRegisters, every, risingFrom, taintedBelow, plainEntry, taintedNumbersBelow, taintEntry, taintedEntry, environment, stateOf, taintedStateOf}
-use Rattle.rules.specs.Soundness.{Sound, TaintedSound, EntersSound}
+use Rattle.rules.specs.Guarded.{slotMark, cellMark}
+use Rattle.rules.specs.Entry.{Snapshot, GuardedSnapshot, usedAddresses, usedNumbers, usedMarks, usedOutput, markedRegisters, every, risingFrom, markedBelow, plainEntry, markedNumbersBelow, marksEntry, guardedEntry, environment, stateOf, guardedStateOf}
+use Rattle.rules.specs.Soundness.{Sound, GuardedSound, EntersSound}
 use Rattle.rules.proofs.BoolLaws.{false-true, and-left, and-right}
 use Rattle.rules.proofs.CellLaws.{absent-present, zipped-rising, addresses-zipped, count-zipped}
-use Rattle.rules.proofs.EntryLaws.{all-at, taintedBelow-at, length-lowBits}
+use Rattle.rules.proofs.EntryLaws.{all-at, markedBelow-at, length-lowBits}
 
 -- Cells of two buffers
 
@@ -44,19 +44,19 @@ zipped-every f (b ∷ l) (w ∷ vs) t a v e = go (zipped-every f l vs (and-right
     go k true e = let z : w ≡ v = cc in subst (λ x. f x ≡ true) z (and-left (f w) _ t)
     go k false e = k e
 
-zipped-below : (l ts ns : List ℕ) → taintedBelow (map (λ t. eqb t 1) ts) ns ≡ true
-    → (a v : ℕ) → cellTaint (cells ℕ) (zipped l ts) a ≡ true → get (zipped l ns) a ≡ present v → v < p
+zipped-below : (l ts ns : List ℕ) → markedBelow (map (λ t. eqb t 1) ts) ns ≡ true
+    → (a v : ℕ) → cellMark (cells ℕ) (zipped l ts) a ≡ true → get (zipped l ns) a ≡ present v → v < p
 zipped-below [] ts ns h a v t e = absurd (false-true t)
 zipped-below (b ∷ l) [] ns h a v t e = absurd (false-true t)
 zipped-below (b ∷ l) (u ∷ ts) [] h a v t e = absurd (absent-present v e)
 zipped-below (b ∷ l) (u ∷ ts) (n ∷ ns) h a v t e =
     go (zipped-below l ts ns (and-right (not (eqb u 1) || ltb n p) _ h) a v) (eqb b a) t e
   where
-    go : (cellTaint (cells ℕ) (zipped l ts) a ≡ true → get (zipped l ns) a ≡ present v → v < p) → (c : Bool)
-        → slotTaint (cells ℕ) (choose c (present u) (get (zipped l ts) a)) ≡ true → choose c (present n) (get (zipped l ns) a) ≡ present v → v < p
+    go : (cellMark (cells ℕ) (zipped l ts) a ≡ true → get (zipped l ns) a ≡ present v → v < p) → (c : Bool)
+        → slotMark (cells ℕ) (choose c (present u) (get (zipped l ts) a)) ≡ true → choose c (present n) (get (zipped l ns) a) ≡ present v → v < p
     go k true t e =
         let z : n ≡ v = cc in
-        subst (λ x. x < p) z (taintedBelow-at (map (λ t. eqb t 1) (u ∷ ts)) (n ∷ ns) h 0 t)
+        subst (λ x. x < p) z (markedBelow-at (map (λ t. eqb t 1) (u ∷ ts)) (n ∷ ns) h 0 t)
     go k false t e = k t e
 
 -- Used parts
@@ -89,28 +89,28 @@ entry-sound program s ten t =
       first = take-length (usedOutput s);
     }
 
-pub tainted-entry-sound : (program : List Instruction) (g : TaintedSnapshot) → length (g .plain .machine .registers) ≡ 10 → taintedEntry g ≡ true
-    → TaintedSound (environment program (g .plain)) (taintedStateOf g)
-unfolding taintedEntry taintEntry taintedNumbersBelow plainEntry
-tainted-entry-sound program g ten t =
+pub guarded-entry-sound : (program : List Instruction) (g : GuardedSnapshot) → length (g .plain .machine .registers) ≡ 10 → guardedEntry g ≡ true
+    → GuardedSound (environment program (g .plain)) (guardedStateOf g)
+unfolding guardedEntry marksEntry markedNumbersBelow plainEntry
+guarded-entry-sound program g ten t =
     let s = g .plain in
     let n = s .machine .«cell_count» in
     let own : plainEntry s ≡ true = all-at _ t 0 in
-    let taint : taintEntry g ≡ true = all-at _ t 1 in
-    let lengths : length (g .taints) ≡ length (s .addresses) = eqb-true _ _ (all-at _ taint 0) in
+    let mark : marksEntry g ≡ true = all-at _ t 1 in
+    let lengths : length (g .marks) ≡ length (s .addresses) = eqb-true _ _ (all-at _ mark 0) in
     let numbers : length (s .numbers) ≡ length (s .addresses) = eqb-true _ _ (all-at _ own 4) in
-    let bits : every (λ t. leb t 1) (usedTaints g) ≡ true = all-at _ taint 1 in
-    let below : taintedNumbersBelow g ≡ true = all-at _ taint 3 in
-    let k : length (usedTaints g) ≡ length (usedAddresses s) = used-lengths n (g .taints) (s .addresses) lengths in
+    let bits : every (λ t. leb t 1) (usedMarks g) ≡ true = all-at _ mark 1 in
+    let below : markedNumbersBelow g ≡ true = all-at _ mark 3 in
+    let k : length (usedMarks g) ≡ length (usedAddresses s) = used-lengths n (g .marks) (s .addresses) lengths in
     let l : length (usedNumbers s) ≡ length (usedAddresses s) = used-lengths n (s .numbers) (s .addresses) numbers in
     record {
       plain = entry-sound program s ten own;
-      ten = length-lowBits 10 (g .registerTaints);
-      addresses = addresses-zipped (usedAddresses s) (usedTaints g) (omega arith) ∙ sym (addresses-zipped (usedAddresses s) (usedNumbers s) (omega arith));
-      zeroOrOne = λ a t e. leb-true t 1 (zipped-every (λ t. leb t 1) (usedAddresses s) (usedTaints g) bits a t e);
-      registersBelow = taintedBelow-at (taintedRegisters g) (s .machine .registers) (all-at _ below 0);
-      cellsBelow = zipped-below (usedAddresses s) (usedTaints g) (usedNumbers s) (all-at _ below 1);
+      ten = length-lowBits 10 (g .registerMarks);
+      addresses = addresses-zipped (usedAddresses s) (usedMarks g) (omega arith) ∙ sym (addresses-zipped (usedAddresses s) (usedNumbers s) (omega arith));
+      zeroOrOne = λ a t e. leb-true t 1 (zipped-every (λ t. leb t 1) (usedAddresses s) (usedMarks g) bits a t e);
+      registersBelow = markedBelow-at (markedRegisters g) (s .machine .registers) (all-at _ below 0);
+      cellsBelow = zipped-below (usedAddresses s) (usedMarks g) (usedNumbers s) (all-at _ below 1);
     }
 
 pub enters-sound : (program : List Instruction) → EntersSound program
-enters-sound program = record { plain = entry-sound program; tainted = tainted-entry-sound program }
+enters-sound program = record { plain = entry-sound program; guarded = guarded-entry-sound program }

@@ -7,16 +7,16 @@ use native.Mathlib.Omega.{arith}
 use lib.ListN.{length, length-append}
 use Rattle.rules.specs.declared.Instruction.{Instruction}
 use Rattle.rules.specs.Numbers.{choose}
-use Rattle.rules.specs.Results.{Result, TaintedResult}
+use Rattle.rules.specs.Results.{Result, GuardedResult}
 use Rattle.rules.specs.Cells.{Cells, get, put, count, Rising, cells}
 use Rattle.rules.specs.PlainMap.{isPresent}
 use Rattle.rules.specs.Opcodes.{Class, field, equality, small, complement, move, assert, rangeCheck, jump, conditionalJump, call, return, load, store, tapeLoad, tapeStore, contractCall, end, uncovered, classOf}
 use Rattle.rules.specs.Operands.{Operands}
 use Rattle.rules.specs.Step.{Environment, State, Next, storeMany, operate, capacity, step, Ran, onStep, run}
-use Rattle.rules.specs.Taint.{TaintedState, TaintedNext, taintedRest, taintedStep, onTaintedStep, taintedRun}
+use Rattle.rules.specs.Guarded.{GuardedState, GuardedNext, guardedRest, guardedStep, onGuardedStep, guardedRun}
 use Rattle.rules.specs.Soundness.{Sound}
 use Rattle.rules.proofs.CellLaws.{rising-put, count-put}
-use Rattle.rules.proofs.Passing.{Passing, refused, passed, passing-require, passing-bind, passing-any, passing-both, PassingTainted, refused-tainted, sink-tainted, passed-tainted, passing-after, passing-after-any, passing-guard, finish-keeps}
+use Rattle.rules.proofs.Passing.{Passing, refused, passed, passing-require, passing-bind, passing-any, passing-both, PassingGuarded, refused-guarded, sink-guarded, passed-guarded, passing-after, passing-after-any, passing-guard, finish-keeps}
 use Rattle.rules.proofs.PlainSoundness.{operate-keeps, capacity-sound}
 
 pub record Grown (s t : State (cells ℕ)) : Type 0 where
@@ -105,31 +105,31 @@ unfolding run
 run-grows e zero s h = grown-same s
 run-grows e (suc budget) s h = on-step-grows e s (run (cells ℕ) e budget) (step-grows e s h) (run-grows e budget)
 
-tainted-step-grows : (e : Environment) (q : TaintedState (cells ℕ)) → Sound e (q .plain)
-    → PassingTainted (λ n. SoundGrown e (q .plain) (n .next .state)) (taintedStep (cells ℕ) e q)
-unfolding taintedStep taintedRest
-tainted-step-grows e q h =
+guarded-step-grows : (e : Environment) (q : GuardedState (cells ℕ)) → Sound e (q .plain)
+    → PassingGuarded (λ n. SoundGrown e (q .plain) (n .next .state)) (guardedStep (cells ℕ) e q)
+unfolding guardedStep guardedRest
+guarded-step-grows e q h =
     let s = q .plain in
     passing-after-any _ _ λ i.
     passing-after-any _ _ λ o.
     passing-guard _
     (passing-after _ (passing-both (operate-keeps e i s o h (classOf (i .opcode))) (operate-grows e i s o (h .cells .rising) (classOf (i .opcode)))) λ n k.
     passing-guard _
-    (passing-after _ (passing-both (capacity-sound e n (k .0)) (capacity-grows e s n (k .1))) λ n l. passed-tainted l))
+    (passing-after _ (passing-both (capacity-sound e n (k .0)) (capacity-grows e s n (k .1))) λ n l. passed-guarded l))
 
-on-tainted-step-grows : (e : Environment) (q : TaintedState (cells ℕ)) {x : TaintedResult (TaintedNext (cells ℕ))}
-    (k : TaintedState (cells ℕ) → Ran (TaintedState (cells ℕ))) → PassingTainted (λ n. SoundGrown e (q .plain) (n .next .state)) x
-    → ((r : TaintedState (cells ℕ)) → Sound e (r .plain) → Grown (r .plain) (k r .state .plain))
-    → Grown (q .plain) (onTaintedStep (cells ℕ) q x k .state .plain)
-on-tainted-step-grows e q k refused-tainted g = grown-same (q .plain)
-on-tainted-step-grows e q k sink-tainted g = grown-same (q .plain)
-on-tainted-step-grows e q k (passed-tainted {a = n} h) g =
-    let left : TaintedState (cells ℕ) = record { plain = n .next .state; taints = n .taints } in
+on-guarded-step-grows : (e : Environment) (q : GuardedState (cells ℕ)) {x : GuardedResult (GuardedNext (cells ℕ))}
+    (k : GuardedState (cells ℕ) → Ran (GuardedState (cells ℕ))) → PassingGuarded (λ n. SoundGrown e (q .plain) (n .next .state)) x
+    → ((r : GuardedState (cells ℕ)) → Sound e (r .plain) → Grown (r .plain) (k r .state .plain))
+    → Grown (q .plain) (onGuardedStep (cells ℕ) q x k .state .plain)
+on-guarded-step-grows e q k refused-guarded g = grown-same (q .plain)
+on-guarded-step-grows e q k sink-guarded g = grown-same (q .plain)
+on-guarded-step-grows e q k (passed-guarded {a = n} h) g =
+    let left : GuardedState (cells ℕ) = record { plain = n .next .state; marks = n .marks } in
     finish-keeps (λ r. Grown (q .plain) (r .plain)) (n .next .finish) (n .next .state .clk) left k (h .1) (grown-twice (h .1) (g left (h .0)))
 
-pub tainted-run-grows : (e : Environment) (budget : ℕ) (q : TaintedState (cells ℕ)) → Sound e (q .plain)
-    → Grown (q .plain) (taintedRun (cells ℕ) e budget q .state .plain)
-unfolding taintedRun
-tainted-run-grows e zero q h = grown-same (q .plain)
-tainted-run-grows e (suc budget) q h =
-    on-tainted-step-grows e q (taintedRun (cells ℕ) e budget) (tainted-step-grows e q h) (tainted-run-grows e budget)
+pub guarded-run-grows : (e : Environment) (budget : ℕ) (q : GuardedState (cells ℕ)) → Sound e (q .plain)
+    → Grown (q .plain) (guardedRun (cells ℕ) e budget q .state .plain)
+unfolding guardedRun
+guarded-run-grows e zero q h = grown-same (q .plain)
+guarded-run-grows e (suc budget) q h =
+    on-guarded-step-grows e q (guardedRun (cells ℕ) e budget) (guarded-step-grows e q h) (guarded-run-grows e budget)

@@ -21,26 +21,26 @@ pub mod KilostepsRounded
 -- the tables of cases
 pub mod Unfolding
 pub mod AllCases
--- taints and sinks are document 01's
+-- marks and sinks are document 01's
 pub mod WrittenPlaces
-pub mod TaintsFollow
+pub mod MarksFollow
 pub mod SinksExact
 -- the rules over a plain map
 pub mod PlainMapAgreement
-pub mod TaintedMapAgreement
+pub mod GuardedMapAgreement
 -- demand 3
-pub mod LowStates
-pub mod LowSteps
-pub mod LowRuns
-pub mod LowSnapshots
-pub mod TaintedBesidePlain
+pub mod AlikeStates
+pub mod AlikeSteps
+pub mod AlikeRuns
+pub mod AlikeSnapshots
+pub mod GuardedBesidePlain
 pub mod SinkRuns
 pub mod CleanRuns
 pub mod NonInterferenceHolds
 pub mod WitnessesHold
 -- states stay sound, and runs go on where they paused
 pub mod PlainSoundness
-pub mod TaintedSoundness
+pub mod GuardedSoundness
 pub mod EntrySoundness
 pub mod Resuming
 pub mod Growth

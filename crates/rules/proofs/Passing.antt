@@ -5,7 +5,7 @@ use mathlib.Core.Bool.{Bool, true, false}
 use lib.Dec.{ltb}
 use Rattle.rules.specs.declared.Refusal.{Refusal}
 use Rattle.rules.specs.Numbers.{clockEnd}
-use Rattle.rules.specs.Results.{Result, refuse, pass, require, bind, TaintedResult, refuses, sink, passes, after, guard}
+use Rattle.rules.specs.Results.{Result, refuse, pass, require, bind, GuardedResult, refuses, sink, passes, after, guard}
 use Rattle.rules.specs.Step.{Finish, goesOn, ends, calls, delegates, Ran, onClock, onFinish}
 
 pub data Passing {A : Type 0} (P : A → Type 0) : Result A → Type 0 where
@@ -45,27 +45,27 @@ passing-at {P = P} {r} {a} h e = go (subst (Passing P) e h)
     go : {a : _} → Passing P (pass a) → P a
     go (passed q) = q
 
--- of a tainted step, which may also stop at a sink
-pub data PassingTainted {A : Type 0} (P : A → Type 0) : TaintedResult A → Type 0 where
-  refused-tainted : {f : Refusal} → PassingTainted P (refuses f)
-  sink-tainted : PassingTainted P sink
-  passed-tainted : {a : A} → P a → PassingTainted P (passes a)
+-- of a guarded step, which may also stop at a sink
+pub data PassingGuarded {A : Type 0} (P : A → Type 0) : GuardedResult A → Type 0 where
+  refused-guarded : {f : Refusal} → PassingGuarded P (refuses f)
+  sink-guarded : PassingGuarded P sink
+  passed-guarded : {a : A} → P a → PassingGuarded P (passes a)
 
-pub passing-after : {A B : Type 0} {Q : A → Type 0} {P : B → Type 0} {r : Result A} (k : A → TaintedResult B) → Passing Q r
-    → ((a : A) → Q a → PassingTainted P (k a)) → PassingTainted P (after r k)
+pub passing-after : {A B : Type 0} {Q : A → Type 0} {P : B → Type 0} {r : Result A} (k : A → GuardedResult B) → Passing Q r
+    → ((a : A) → Q a → PassingGuarded P (k a)) → PassingGuarded P (after r k)
 unfolding after
-passing-after k refused h = refused-tainted
+passing-after k refused h = refused-guarded
 passing-after k (passed {a} q) h = h a q
 
-pub passing-after-any : {A B : Type 0} {P : B → Type 0} (r : Result A) (k : A → TaintedResult B) → ((a : A) → PassingTainted P (k a))
-    → PassingTainted P (after r k)
+pub passing-after-any : {A B : Type 0} {P : B → Type 0} (r : Result A) (k : A → GuardedResult B) → ((a : A) → PassingGuarded P (k a))
+    → PassingGuarded P (after r k)
 unfolding after
-passing-after-any (refuse f) k h = refused-tainted
+passing-after-any (refuse f) k h = refused-guarded
 passing-after-any (pass a) k h = h a
 
-pub passing-guard : {A : Type 0} {P : A → Type 0} (b : Bool) {r : TaintedResult A} → PassingTainted P r → PassingTainted P (guard b r)
+pub passing-guard : {A : Type 0} {P : A → Type 0} (b : Bool) {r : GuardedResult A} → PassingGuarded P r → PassingGuarded P (guard b r)
 unfolding guard
-passing-guard true h = sink-tainted
+passing-guard true h = sink-guarded
 passing-guard false h = h
 
 -- a property of the state that an accepted step leaves, and of what the rest of the run leaves, holds of the whole run's end

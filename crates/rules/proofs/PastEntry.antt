@@ -11,15 +11,15 @@ use Rattle.rules.specs.declared.Refusal.{Refusal}
 use Rattle.rules.specs.declared.Refusal.the-variants.{NoInstruction}
 use Rattle.rules.specs.declared.Answer.{Answer}
 use Rattle.rules.specs.Numbers.{clockEnd}
-use Rattle.rules.specs.Results.{Result, TaintedResult}
+use Rattle.rules.specs.Results.{Result, GuardedResult}
 use Rattle.rules.specs.Field.{fieldAdd, fieldMul}
 use Rattle.rules.specs.Memory.{Slot, absent, present, Memory}
 use Rattle.rules.specs.Opcodes.{Class, field, equality, small, complement, move, assert, rangeCheck, jump, conditionalJump, call, return, load, store, tapeLoad, tapeStore, contractCall, end, uncovered}
 use Rattle.rules.specs.Operands.{binaryLength, instructionAt, fetch, Want, ignored, lacking, value, register, target, inField, valueOf, targetOf, absence, operand, Operands, operands}
 use Rattle.rules.specs.Step.{Environment, State, Next, Finish, goesOn, ends, calls, delegates, Ran, onClock, onFinish, r9, slotValue, read, readBelow, readMany, readSpan, storeMany, operate, capacity, step, onStep, run}
-use Rattle.rules.specs.Taint.{Taints, TaintedState, TaintedNext, taintedRest, taintedStep, onTaintedStep, taintedRun}
+use Rattle.rules.specs.Guarded.{MarkState, GuardedState, GuardedNext, guardedRest, guardedStep, onGuardedStep, guardedRun}
 use Rattle.rules.specs.Answers.{Meaning, outcome, refusal, refusalMeaning, meaning}
-use Rattle.rules.proofs.Refusing.{Refusing, refused, passed, RefusingTainted, refused-tainted, sink-tainted, passed-tainted, refusing-require, refusing-choose, refusing-bind, refusing-after, refusing-guard}
+use Rattle.rules.proofs.Refusing.{Refusing, refused, passed, RefusingGuarded, refused-guarded, sink-guarded, passed-guarded, refusing-require, refusing-choose, refusing-bind, refusing-after, refusing-guard}
 
 -- an outcome, or a refusal above 3
 abbrev pub isPastEntry : Meaning → Bool
@@ -166,18 +166,18 @@ module _ (memory : Memory ℕ) where
         refusing-bind _ (operated _ i s o) λ n.
         fitted n
 
-    tainted-rest : (t : Taints memory) (c : Class) (i : Instruction) (s : State memory) (o : Operands) → RefusingTainted AtStep (taintedRest memory e t c i s o)
-    unfolding taintedRest
-    tainted-rest t c i s o =
+    guarded-rest : (t : MarkState memory) (c : Class) (i : Instruction) (s : State memory) (o : Operands) → RefusingGuarded AtStep (guardedRest memory e t c i s o)
+    unfolding guardedRest
+    guarded-rest t c i s o =
         refusing-after _ (operated c i s o) λ n.
-        refusing-guard _ (refusing-after _ (fitted n) λ n. passed-tainted)
+        refusing-guard _ (refusing-after _ (fitted n) λ n. passed-guarded)
 
-    tainted-stepped : (q : TaintedState memory) → RefusingTainted AtStep (taintedStep memory e q)
-    unfolding taintedStep
-    tainted-stepped q =
+    guarded-stepped : (q : GuardedState memory) → RefusingGuarded AtStep (guardedStep memory e q)
+    unfolding guardedStep
+    guarded-stepped q =
         refusing-after _ (fetched _ _) λ i.
         refusing-after _ (operands-read _ _ _ i) λ o.
-        refusing-guard _ (tainted-rest _ _ i _ o)
+        refusing-guard _ (guarded-rest _ _ i _ o)
 
 -- Runs
 
@@ -206,16 +206,16 @@ module _ (memory : Memory ℕ) (e : Environment) where
   run-past zero s = refl
   run-past (suc budget) s = on-step-past s (run memory e budget) (stepped memory e s) (run-past budget)
 
-  on-tainted-step-past : (q : TaintedState memory) {r : TaintedResult (TaintedNext memory)} (k : TaintedState memory → Ran (TaintedState memory)) → RefusingTainted AtStep r
-      → ((t : TaintedState memory) → Past (k t .answer)) → Past (onTaintedStep memory q r k .answer)
+  on-guarded-step-past : (q : GuardedState memory) {r : GuardedResult (GuardedNext memory)} (k : GuardedState memory → Ran (GuardedState memory)) → RefusingGuarded AtStep r
+      → ((t : GuardedState memory) → Past (k t .answer)) → Past (onGuardedStep memory q r k .answer)
   unfolding meaning
-  on-tainted-step-past q k (refused-tainted h) z = h
-  on-tainted-step-past q k sink-tainted z = refl
-  on-tainted-step-past q k (passed-tainted {a = n}) z =
-      let left : TaintedState memory = record { plain = n .next .state; taints = n .taints } in
+  on-guarded-step-past q k (refused-guarded h) z = h
+  on-guarded-step-past q k sink-guarded z = refl
+  on-guarded-step-past q k (passed-guarded {a = n}) z =
+      let left : GuardedState memory = record { plain = n .next .state; marks = n .marks } in
       finish-past (n .next .finish) (n .next .state .clk) left k (z left)
 
-  pub tainted-run-past : (budget : ℕ) (q : TaintedState memory) → Past (taintedRun memory e budget q .answer)
-  unfolding taintedRun meaning
-  tainted-run-past zero q = refl
-  tainted-run-past (suc budget) q = on-tainted-step-past q (taintedRun memory e budget) (tainted-stepped memory e q) (tainted-run-past budget)
+  pub guarded-run-past : (budget : ℕ) (q : GuardedState memory) → Past (guardedRun memory e budget q .answer)
+  unfolding guardedRun meaning
+  guarded-run-past zero q = refl
+  guarded-run-past (suc budget) q = on-guarded-step-past q (guardedRun memory e budget) (guarded-stepped memory e q) (guarded-run-past budget)

@@ -2,17 +2,17 @@
 use mathlib.Core.Bool.{Bool, true, false}
 use Rattle.rules.specs.declared.Refusal.{Refusal}
 use Rattle.rules.specs.Numbers.{choose}
-use Rattle.rules.specs.Results.{Result, refuse, pass, require, bind, TaintedResult, refuses, sink, passes, after, guard}
+use Rattle.rules.specs.Results.{Result, refuse, pass, require, bind, GuardedResult, refuses, sink, passes, after, guard}
 
 pub data Refusing (P : Refusal → Type 0) {A : Type 0} : Result A → Type 0 where
   refused : {f : Refusal} → P f → Refusing P (refuse f)
   passed : {a : A} → Refusing P (pass a)
 
--- of a tainted step, which may also stop at a sink
-pub data RefusingTainted (P : Refusal → Type 0) {A : Type 0} : TaintedResult A → Type 0 where
-  refused-tainted : {f : Refusal} → P f → RefusingTainted P (refuses f)
-  sink-tainted : RefusingTainted P sink
-  passed-tainted : {a : A} → RefusingTainted P (passes a)
+-- of a guarded step, which may also stop at a sink
+pub data RefusingGuarded (P : Refusal → Type 0) {A : Type 0} : GuardedResult A → Type 0 where
+  refused-guarded : {f : Refusal} → P f → RefusingGuarded P (refuses f)
+  sink-guarded : RefusingGuarded P sink
+  passed-guarded : {a : A} → RefusingGuarded P (passes a)
 
 module _ {P : Refusal → Type 0} {A : Type 0} where
   pub refusing-require : (b : Bool) (f : Refusal) {r : Result A} → P f → Refusing P r → Refusing P (require b f r)
@@ -29,13 +29,13 @@ module _ {P : Refusal → Type 0} {A : Type 0} where
   refusing-bind k (refused p) h = refused p
   refusing-bind k (passed {a}) h = h a
 
-  pub refusing-after : {B : Type 0} {r : Result B} (k : B → TaintedResult A) → Refusing P r → ((b : B) → RefusingTainted P (k b))
-      → RefusingTainted P (after r k)
+  pub refusing-after : {B : Type 0} {r : Result B} (k : B → GuardedResult A) → Refusing P r → ((b : B) → RefusingGuarded P (k b))
+      → RefusingGuarded P (after r k)
   unfolding after
-  refusing-after k (refused p) h = refused-tainted p
+  refusing-after k (refused p) h = refused-guarded p
   refusing-after k (passed {a}) h = h a
 
-  pub refusing-guard : {r : TaintedResult A} (b : Bool) → RefusingTainted P r → RefusingTainted P (guard b r)
+  pub refusing-guard : {r : GuardedResult A} (b : Bool) → RefusingGuarded P r → RefusingGuarded P (guard b r)
   unfolding guard
-  refusing-guard true h = sink-tainted
+  refusing-guard true h = sink-guarded
   refusing-guard false h = h

@@ -5,9 +5,9 @@ use mathlib.Core.Bool.{Bool, true, false}
 use lib.Dec.{ltb}
 use Rattle.rules.specs.declared.Refusal.{Refusal}
 use Rattle.rules.specs.Numbers.{clockEnd}
-use Rattle.rules.specs.Results.{Result, refuse, pass, require, bind, TaintedResult, after, guard}
+use Rattle.rules.specs.Results.{Result, refuse, pass, require, bind, GuardedResult, after, guard}
 use Rattle.rules.specs.Step.{Finish, goesOn, ends, calls, delegates, Ran, onClock, onFinish}
-use Rattle.rules.specs.Relations.{Both, refused, passed, BothTainted, refused-alike, sink-alike, BothRan}
+use Rattle.rules.specs.Relations.{Both, refused, passed, BothGuarded, refused-alike, sink-alike, BothRan}
 
 -- Results
 
@@ -44,29 +44,29 @@ both-require {R = R} {b = b} f {r} {q} e h = subst (λ c. Both R (require b f r)
     go true = h
     go false = refused
 
--- Tainted steps
+-- Guarded steps
 
-pub both-after : {A B C D : Type 0} {R : A → B → Type 0} {S : C → D → Type 0} {r : Result A} {q : Result B} (f : A → TaintedResult C)
-    (g : B → TaintedResult D) → Both R r q → ((a : A) (b : B) → R a b → BothTainted S (f a) (g b)) → BothTainted S (after r f) (after q g)
+pub both-after : {A B C D : Type 0} {R : A → B → Type 0} {S : C → D → Type 0} {r : Result A} {q : Result B} (f : A → GuardedResult C)
+    (g : B → GuardedResult D) → Both R r q → ((a : A) (b : B) → R a b → BothGuarded S (f a) (g b)) → BothGuarded S (after r f) (after q g)
 unfolding after
 both-after f g refused h = refused-alike
 both-after f g (passed {a} {b} x) h = h a b x
 
-pub both-after-equal : {A C D : Type 0} {S : C → D → Type 0} {r q : Result A} (f : A → TaintedResult C) (g : A → TaintedResult D)
-    → r ≡ q → ((a : A) → BothTainted S (f a) (g a)) → BothTainted S (after r f) (after q g)
+pub both-after-equal : {A C D : Type 0} {S : C → D → Type 0} {r q : Result A} (f : A → GuardedResult C) (g : A → GuardedResult D)
+    → r ≡ q → ((a : A) → BothGuarded S (f a) (g a)) → BothGuarded S (after r f) (after q g)
 unfolding after
-both-after-equal {S = S} {r = r} f g e h = subst (λ q. BothTainted S (after r f) (after q g)) e (go r)
+both-after-equal {S = S} {r = r} f g e h = subst (λ q. BothGuarded S (after r f) (after q g)) e (go r)
   where
-    go : (r : Result _) → BothTainted S (after r f) (after r g)
+    go : (r : Result _) → BothGuarded S (after r f) (after r g)
     go (refuse x) = refused-alike
     go (pass a) = h a
 
-pub both-guard : {A B : Type 0} {R : A → B → Type 0} {b c : Bool} {r : TaintedResult A} {q : TaintedResult B} → b ≡ c → BothTainted R r q
-    → BothTainted R (guard b r) (guard c q)
+pub both-guard : {A B : Type 0} {R : A → B → Type 0} {b c : Bool} {r : GuardedResult A} {q : GuardedResult B} → b ≡ c → BothGuarded R r q
+    → BothGuarded R (guard b r) (guard c q)
 unfolding guard
-both-guard {R = R} {b = b} {r = r} {q = q} e h = subst (λ c. BothTainted R (guard b r) (guard c q)) e (go b)
+both-guard {R = R} {b = b} {r = r} {q = q} e h = subst (λ c. BothGuarded R (guard b r) (guard c q)) e (go b)
   where
-    go : (b : Bool) → BothTainted R (guard b r) (guard b q)
+    go : (b : Bool) → BothGuarded R (guard b r) (guard b q)
     go true = sink-alike
     go false = h
 

@@ -13,17 +13,17 @@ use Rattle.rules.specs.Numbers.{p, heapEnd, clockEnd, cellLimit, valueLi
 use Rattle.rules.specs.Memory.{present}
 use Rattle.rules.specs.Cells.{Cells, none, cell, get, count, addresses, contents, zipped, RisingFrom, cells}
 use Rattle.rules.specs.Step.{State, isStorable, overlay}
-use Rattle.rules.specs.Taint.{TaintedState}
-use Rattle.rules.specs.Entry.{Snapshot, TaintedSnapshot, lowBits, wordOfBits, usedNumbers, taintedCells, every, risingFrom, taintedBelow, plainEntry, taintedNumbersBelow, taintEntry, taintedEntry, environment, stateOf, taintedStateOf, snapshotAfter, taintedSnapshotAfter}
-use Rattle.rules.specs.Soundness.{Sound, TaintedSound}
-use Rattle.rules.specs.Resumption.{resumed, taintedResumed, Resumable, TaintedResumable, Resumption}
+use Rattle.rules.specs.Guarded.{GuardedState}
+use Rattle.rules.specs.Entry.{Snapshot, GuardedSnapshot, lowBits, wordOfBits, usedNumbers, markedCells, every, risingFrom, markedBelow, plainEntry, markedNumbersBelow, marksEntry, guardedEntry, environment, stateOf, guardedStateOf, snapshotAfter, guardedSnapshotAfter}
+use Rattle.rules.specs.Soundness.{Sound, GuardedSound}
+use Rattle.rules.specs.Resumption.{resumed, guardedResumed, Resumable, GuardedResumable, Resumption}
 use Rattle.rules.proofs.BoolLaws.{and-true}
 use Rattle.rules.proofs.CellLaws.{length-addresses, length-contents, rising-addresses, zipped-again, get-behind}
 use Rattle.rules.proofs.OverlayLaws.{length-overlay, used-overlay, take-overlay}
-use Rattle.rules.proofs.EntryLaws.{all-at, all-none, all-more, below-test, taintedBelow-of, lowBits-word, word-below}
+use Rattle.rules.proofs.EntryLaws.{all-at, all-none, all-more, below-test, markedBelow-of, lowBits-word, word-below}
 use Rattle.rules.proofs.PlainSoundness.{output-within}
-use Rattle.rules.proofs.LowStates.{CellsRelated}
-use Rattle.rules.proofs.TaintedSoundness.{below, sound-beside}
+use Rattle.rules.proofs.AlikeStates.{CellsRelated}
+use Rattle.rules.proofs.GuardedSoundness.{below, sound-beside}
 
 -- The tests of entry, of cells that are sound
 
@@ -38,9 +38,9 @@ every-test f n none r h = refl
 every-test f n (cell b w c) r h =
     and-true (h b w (rw (eq-eqb b b refl))) (every-test f (suc b) c (r .1) (λ a v e. h a v (get-behind b w c a v (r .1) e)))
 
-taints-test : {k c d : Cells ℕ} → CellsRelated k c d → taintedBelow (map (λ t. eqb t 1) (contents k)) (contents c) ≡ true
-taints-test CellsRelated.nil = refl
-taints-test (CellsRelated.cons {t = t} {v = v} h r) = and-true (below-test (eqb t 1) v (below h)) (taints-test r)
+marks-test : {k c d : Cells ℕ} → CellsRelated k c d → markedBelow (map (λ t. eqb t 1) (contents k)) (contents c) ≡ true
+marks-test CellsRelated.nil = refl
+marks-test (CellsRelated.cons {t = t} {v = v} h r) = and-true (below-test (eqb t 1) v (below h)) (marks-test r)
 
 same-count : (k c : Cells ℕ) → addresses k ≡ addresses c → count k ≡ count c
 same-count k c e = sym (length-addresses k) ∙ ap length e ∙ length-addresses c
@@ -129,83 +129,83 @@ module _ (program : List Instruction) (s : Snapshot) (t : State (cells ℕ)) (pa
         entry = entry-again;
       }
 
--- The tainted snapshot
+-- The guarded snapshot
 
 module _
     (program : List Instruction)
-    (g : TaintedSnapshot)
-    (q : TaintedState (cells ℕ))
-    (passes : taintedEntry g ≡ true)
-    (h : TaintedSound (environment program (g .plain)) q)
+    (g : GuardedSnapshot)
+    (q : GuardedState (cells ℕ))
+    (passes : guardedEntry g ≡ true)
+    (h : GuardedSound (environment program (g .plain)) q)
   where
     plain-passes : plainEntry (g .plain) ≡ true
-    unfolding taintedEntry
+    unfolding guardedEntry
     plain-passes = all-at _ passes 0
 
-    taint-passes : taintEntry g ≡ true
-    unfolding taintedEntry
-    taint-passes = all-at _ passes 1
+    mark-passes : marksEntry g ≡ true
+    unfolding guardedEntry
+    mark-passes = all-at _ passes 1
 
-    same-taints : length (g .taints) ≡ length (g .plain .addresses)
-    unfolding taintEntry
-    same-taints = eqb-true _ _ (all-at _ taint-passes 0)
+    same-marks : length (g .marks) ≡ length (g .plain .addresses)
+    unfolding marksEntry
+    same-marks = eqb-true _ _ (all-at _ mark-passes 0)
 
-    counts : count (q .taints .cells) ≡ count (q .plain .cells)
-    counts = same-count (q .taints .cells) (q .plain .cells) (h .addresses)
+    counts : count (q .marks .cells) ≡ count (q .plain .cells)
+    counts = same-count (q .marks .cells) (q .plain .cells) (h .addresses)
 
-    contents-length : length (contents (q .taints .cells)) ≡ count (q .plain .cells)
-    contents-length = length-contents (q .taints .cells) ∙ counts
+    contents-length : length (contents (q .marks .cells)) ≡ count (q .plain .cells)
+    contents-length = length-contents (q .marks .cells) ∙ counts
 
-    taints-length : length (overlay (contents (q .taints .cells)) (g .taints)) ≡ length (g .taints)
-    taints-length =
+    marks-length : length (overlay (contents (q .marks .cells)) (g .marks)) ≡ length (g .marks)
+    marks-length =
         let l : count (q .plain .cells) ≤ length (g .plain .addresses) = h .plain .cellsFit in
-        length-overlay (contents (q .taints .cells)) (g .taints) (omega (arith, contents-length, same-taints))
+        length-overlay (contents (q .marks .cells)) (g .marks) (omega (arith, contents-length, same-marks))
 
-    used-taints : take (count (q .plain .cells)) (overlay (contents (q .taints .cells)) (g .taints)) ≡ contents (q .taints .cells)
-    used-taints = take-overlay (contents (q .taints .cells)) (g .taints) (count (q .plain .cells)) contents-length
+    used-marks : take (count (q .plain .cells)) (overlay (contents (q .marks .cells)) (g .marks)) ≡ contents (q .marks .cells)
+    used-marks = take-overlay (contents (q .marks .cells)) (g .marks) (count (q .plain .cells)) contents-length
 
-    bits-again : lowBits 10 (wordOfBits (q .taints .registers)) ≡ q .taints .registers
-    bits-again = subst (λ n. lowBits n (wordOfBits (q .taints .registers)) ≡ q .taints .registers) (h .ten) (lowBits-word (q .taints .registers))
+    bits-again : lowBits 10 (wordOfBits (q .marks .registers)) ≡ q .marks .registers
+    bits-again = subst (λ n. lowBits n (wordOfBits (q .marks .registers)) ≡ q .marks .registers) (h .ten) (lowBits-word (q .marks .registers))
 
     rest : Resumable program (g .plain) (q .plain)
     rest = resumable program (g .plain) (q .plain) plain-passes (h .plain)
 
-    tainted-again : taintedStateOf (taintedSnapshotAfter g q) ≡ taintedResumed q
-    tainted-again = λ i. record { plain = rest .state i; taints = record { registers = bits-again i; cells = same i } }
+    guarded-again : guardedStateOf (guardedSnapshotAfter g q) ≡ guardedResumed q
+    guarded-again = λ i. record { plain = rest .state i; marks = record { registers = bits-again i; cells = same i } }
       where
         same : zipped (take (count (q .plain .cells)) (overlay (addresses (q .plain .cells)) (g .plain .addresses)))
-            (take (count (q .plain .cells)) (overlay (contents (q .taints .cells)) (g .taints)))
-            ≡ q .taints .cells
+            (take (count (q .plain .cells)) (overlay (contents (q .marks .cells)) (g .marks)))
+            ≡ q .marks .cells
         same =
-            rw (used-addresses program (g .plain) (q .plain) plain-passes (h .plain), used-taints, ← (h .addresses))
-            (zipped-again (q .taints .cells))
+            rw (used-addresses program (g .plain) (q .plain) plain-passes (h .plain), used-marks, ← (h .addresses))
+            (zipped-again (q .marks .cells))
 
-    registers-again : taintedBelow (lowBits 10 (wordOfBits (q .taints .registers))) (q .plain .registers) ≡ true
-    registers-again = ap (λ l. taintedBelow l (q .plain .registers)) bits-again ∙ taintedBelow-of (q .taints .registers) (q .plain .registers) (h .registersBelow)
+    registers-again : markedBelow (lowBits 10 (wordOfBits (q .marks .registers))) (q .plain .registers) ≡ true
+    registers-again = ap (λ l. markedBelow l (q .plain .registers)) bits-again ∙ markedBelow-of (q .marks .registers) (q .plain .registers) (h .registersBelow)
 
-    taints-rise : RisingFrom 0 (q .taints .cells)
-    taints-rise = rising-addresses 0 (q .taints .cells) (q .plain .cells) (h .addresses) (h .plain .cells .rising)
+    marks-rise : RisingFrom 0 (q .marks .cells)
+    marks-rise = rising-addresses 0 (q .marks .cells) (q .plain .cells) (h .addresses) (h .plain .cells .rising)
 
-    cells-again : taintedBelow (taintedCells (taintedSnapshotAfter g q)) (usedNumbers (snapshotAfter (g .plain) (q .plain))) ≡ true
-    cells-again = rw (used-taints, used-numbers program (g .plain) (q .plain) plain-passes (h .plain)) (taints-test (sound-beside h .plain .cells))
+    cells-again : markedBelow (markedCells (guardedSnapshotAfter g q)) (usedNumbers (snapshotAfter (g .plain) (q .plain))) ≡ true
+    cells-again = rw (used-marks, used-numbers program (g .plain) (q .plain) plain-passes (h .plain)) (marks-test (sound-beside h .plain .cells))
 
-    word-again : wordOfBits (q .taints .registers) < 1024
-    word-again = subst (λ n. wordOfBits (q .taints .registers) < 2 ^ n) (h .ten) (word-below (q .taints .registers))
+    word-again : wordOfBits (q .marks .registers) < 1024
+    word-again = subst (λ n. wordOfBits (q .marks .registers) < 2 ^ n) (h .ten) (word-below (q .marks .registers))
 
-    tainted-entry-again : q .plain .clk < clockEnd → taintedEntry (taintedSnapshotAfter g q) ≡ true
-    unfolding taintedEntry taintEntry taintedNumbersBelow
-    tainted-entry-again l =
+    guarded-entry-again : q .plain .clk < clockEnd → guardedEntry (guardedSnapshotAfter g q) ≡ true
+    unfolding guardedEntry marksEntry markedNumbersBelow
+    guarded-entry-again l =
         all-more _ (rest .entry l)
         (all-more _
-        (all-more _ (eq-eqb _ _ (taints-length ∙ same-taints ∙ sym (rest .addresses)))
-        (all-more _ (ap (every (λ t. leb t 1)) used-taints ∙ every-test (λ t. leb t 1) 0 (q .taints .cells) taints-rise (λ a t e. le-leb t 1 (h .zeroOrOne a t e)))
+        (all-more _ (eq-eqb _ _ (marks-length ∙ same-marks ∙ sym (rest .addresses)))
+        (all-more _ (ap (every (λ t. leb t 1)) used-marks ∙ every-test (λ t. leb t 1) 0 (q .marks .cells) marks-rise (λ a t e. le-leb t 1 (h .zeroOrOne a t e)))
         (all-more _ (lt-ltb _ _ word-again)
         (all-more _
         (all-more _ registers-again
         (all-more _ cells-again all-none)) all-none)))) all-none)
 
-    pub tainted-resumable : TaintedResumable program g q
-    tainted-resumable = record { plain = rest; taints = taints-length; state = tainted-again; entry = tainted-entry-again }
+    pub guarded-resumable : GuardedResumable program g q
+    guarded-resumable = record { plain = rest; marks = marks-length; state = guarded-again; entry = guarded-entry-again }
 
 pub resumption : (program : List Instruction) → Resumption program
-resumption program = record { plain = resumable program; tainted = tainted-resumable program }
+resumption program = record { plain = resumable program; guarded = guarded-resumable program }

@@ -8,12 +8,12 @@ use lib.Dec.{ltb}
 use borrow.Author.Tests.{ltb-true}
 use Rattle.rules.specs.declared.Refusal.{Refusal}
 use Rattle.rules.specs.declared.Refusal.the-variants.{ClockEnd}
-use Rattle.rules.specs.declared.Answer.the-variants.{Ended, Calling, DelegateCalling, Paused, Refused, TaintedSink}
+use Rattle.rules.specs.declared.Answer.the-variants.{Ended, Calling, DelegateCalling, Paused, Refused, MarkedSink}
 use Rattle.rules.specs.Numbers.{clockEnd}
-use Rattle.rules.specs.Results.{Result, refuse, pass, TaintedResult, refuses, sink, passes}
+use Rattle.rules.specs.Results.{Result, refuse, pass, GuardedResult, refuses, sink, passes}
 use Rattle.rules.specs.Memory.{Memory}
 use Rattle.rules.specs.Step.{Environment, State, Next, Finish, goesOn, ends, calls, delegates, Ran, afterStep, onClock, onFinish, step, onStep, run}
-use Rattle.rules.specs.Taint.{TaintedState, TaintedNext, taintedStep, onTaintedStep, taintedRun}
+use Rattle.rules.specs.Guarded.{GuardedState, GuardedNext, guardedStep, onGuardedStep, guardedRun}
 
 -- two runs, the second from where the first ended
 abbrev pub joined : {S : Type 0} → Ran S → Ran S → Ran S
@@ -32,7 +32,7 @@ delegating a b c d e = let z : _≡_ {A = ℕ} 0 1 = cc in omega arith
 refused : (f : Refusal) → Refused f ≡ Paused → ⊥
 refused f e = let z : _≡_ {A = ℕ} 0 1 = cc in omega arith
 
-at-sink : TaintedSink ≡ Paused → ⊥
+at-sink : MarkedSink ≡ Paused → ⊥
 at-sink e = let z : _≡_ {A = ℕ} 0 1 = cc in omega arith
 
 -- After an accepted step: what splits the rest of the run splits the whole, and what the rest leaves has a clock that goes on
@@ -98,36 +98,36 @@ module _ (memory : Memory ℕ) (e : Environment) where
   run-goes-on zero s l a = l
   run-goes-on (suc m) s l a = step-goes-on s (step memory e s) (run memory e m) (run-goes-on m) a
 
-  tainted-step-splits : (q : TaintedState memory) (x : TaintedResult (TaintedNext memory)) (k whole rest : TaintedState memory → Ran (TaintedState memory))
-      → ((q : TaintedState memory) → k q .answer ≡ Paused → whole q ≡ joined (k q) (rest (k q .state)))
-      → onTaintedStep memory q x k .answer ≡ Paused
-      → onTaintedStep memory q x whole ≡ joined (onTaintedStep memory q x k) (rest (onTaintedStep memory q x k .state))
-  tainted-step-splits q (refuses f) k whole rest h a = absurd (refused f a)
-  tainted-step-splits q sink k whole rest h a = absurd (at-sink a)
-  tainted-step-splits q (passes n) k whole rest h a =
-      finish-splits (n .next .finish) (n .next .state .clk) (record { plain = n .next .state; taints = n .taints }) k whole rest h a
+  guarded-step-splits : (q : GuardedState memory) (x : GuardedResult (GuardedNext memory)) (k whole rest : GuardedState memory → Ran (GuardedState memory))
+      → ((q : GuardedState memory) → k q .answer ≡ Paused → whole q ≡ joined (k q) (rest (k q .state)))
+      → onGuardedStep memory q x k .answer ≡ Paused
+      → onGuardedStep memory q x whole ≡ joined (onGuardedStep memory q x k) (rest (onGuardedStep memory q x k .state))
+  guarded-step-splits q (refuses f) k whole rest h a = absurd (refused f a)
+  guarded-step-splits q sink k whole rest h a = absurd (at-sink a)
+  guarded-step-splits q (passes n) k whole rest h a =
+      finish-splits (n .next .finish) (n .next .state .clk) (record { plain = n .next .state; marks = n .marks }) k whole rest h a
 
-  pub tainted-run-splits : (m n : ℕ) (q : TaintedState memory) → taintedRun memory e m q .answer ≡ Paused
-      → taintedRun memory e (m + n) q ≡ joined (taintedRun memory e m q) (taintedRun memory e n (taintedRun memory e m q .state))
-  unfolding taintedRun
-  tainted-run-splits zero n q a = ap (λ k. taintedRun memory e k q) (zero-add n) ∙ whole-run (taintedRun memory e n q)
-  tainted-run-splits (suc m) n q a =
-      ap (λ k. taintedRun memory e k q) (suc-add m n)
-      ∙ tainted-step-splits q (taintedStep memory e q) (taintedRun memory e m) (taintedRun memory e (m + n)) (taintedRun memory e n)
-      (tainted-run-splits m n)
+  pub guarded-run-splits : (m n : ℕ) (q : GuardedState memory) → guardedRun memory e m q .answer ≡ Paused
+      → guardedRun memory e (m + n) q ≡ joined (guardedRun memory e m q) (guardedRun memory e n (guardedRun memory e m q .state))
+  unfolding guardedRun
+  guarded-run-splits zero n q a = ap (λ k. guardedRun memory e k q) (zero-add n) ∙ whole-run (guardedRun memory e n q)
+  guarded-run-splits (suc m) n q a =
+      ap (λ k. guardedRun memory e k q) (suc-add m n)
+      ∙ guarded-step-splits q (guardedStep memory e q) (guardedRun memory e m) (guardedRun memory e (m + n)) (guardedRun memory e n)
+      (guarded-run-splits m n)
       a
 
-  tainted-step-goes-on : (q : TaintedState memory) (x : TaintedResult (TaintedNext memory)) (k : TaintedState memory → Ran (TaintedState memory))
-      → ((q : TaintedState memory) → q .plain .clk < clockEnd → k q .answer ≡ Paused → k q .state .plain .clk < clockEnd)
-      → onTaintedStep memory q x k .answer ≡ Paused → onTaintedStep memory q x k .state .plain .clk < clockEnd
-  tainted-step-goes-on q (refuses f) k h a = absurd (refused f a)
-  tainted-step-goes-on q sink k h a = absurd (at-sink a)
-  tainted-step-goes-on q (passes n) k h a =
-      let left : TaintedState memory = record { plain = n .next .state; taints = n .taints } in
+  guarded-step-goes-on : (q : GuardedState memory) (x : GuardedResult (GuardedNext memory)) (k : GuardedState memory → Ran (GuardedState memory))
+      → ((q : GuardedState memory) → q .plain .clk < clockEnd → k q .answer ≡ Paused → k q .state .plain .clk < clockEnd)
+      → onGuardedStep memory q x k .answer ≡ Paused → onGuardedStep memory q x k .state .plain .clk < clockEnd
+  guarded-step-goes-on q (refuses f) k h a = absurd (refused f a)
+  guarded-step-goes-on q sink k h a = absurd (at-sink a)
+  guarded-step-goes-on q (passes n) k h a =
+      let left : GuardedState memory = record { plain = n .next .state; marks = n .marks } in
       finish-goes-on (λ t. t .plain .clk < clockEnd) (n .next .finish) (n .next .state .clk) left k (h left) a
 
-  pub tainted-run-goes-on : (m : ℕ) (q : TaintedState memory) → q .plain .clk < clockEnd → taintedRun memory e m q .answer ≡ Paused
-      → taintedRun memory e m q .state .plain .clk < clockEnd
-  unfolding taintedRun
-  tainted-run-goes-on zero q l a = l
-  tainted-run-goes-on (suc m) q l a = tainted-step-goes-on q (taintedStep memory e q) (taintedRun memory e m) (tainted-run-goes-on m) a
+  pub guarded-run-goes-on : (m : ℕ) (q : GuardedState memory) → q .plain .clk < clockEnd → guardedRun memory e m q .answer ≡ Paused
+      → guardedRun memory e m q .state .plain .clk < clockEnd
+  unfolding guardedRun
+  guarded-run-goes-on zero q l a = l
+  guarded-run-goes-on (suc m) q l a = guarded-step-goes-on q (guardedStep memory e q) (guardedRun memory e m) (guarded-run-goes-on m) a

@@ -1,4 +1,4 @@
--- A tainted step stops at a sink exactly where it reaches a listed use.
+-- A guarded step stops at a sink exactly where it reaches a listed use.
 use Prim.Native.Nat.{ℕ, zero, suc, _+_, _<_, _≤_}
 use mathlib.Core.Path.{_≡_, refl, sym, subst, _∙_}
 use mathlib.Core.Bool.{Bool, true, false, _||_}
@@ -10,13 +10,13 @@ use Rattle.rules.specs.declared.OlaOpcode.the-variants as O
 use Rattle.rules.specs.declared.OlaOperand.{OlaOperand}
 use Rattle.rules.specs.declared.OlaOperand.the-variants.{Absent, Immediate, Register, RegisterWithOffset, RegisterWithFactor, Psp, Pc}
 use Rattle.rules.specs.declared.Instruction.{Instruction}
-use Rattle.rules.specs.Results.{pass, TaintedResult, sink, passes, after}
+use Rattle.rules.specs.Results.{pass, GuardedResult, sink, passes, after}
 use Rattle.rules.specs.Cells.{Cells, cells}
 use Rattle.rules.specs.Opcodes.{classOf}
 use Rattle.rules.specs.Operands.{Operands}
 use Rattle.rules.specs.Step.{Environment, State, Next, operate, capacity}
-use Rattle.rules.specs.Taint.{operandTaint, sinksOf, operandSink, Taints, cellTaint, spanTaint, readSink, taintsAfter, TaintedState, TaintedNext, taintedRest, taintedStep}
-use Rattle.rules.specs.TaintRules.{OperandTainted, of-register, of-offset, of-factor}
+use Rattle.rules.specs.Guarded.{operandMark, sinksOf, operandSink, MarkState, cellMark, spanMark, readSink, marksAfter, GuardedState, GuardedNext, guardedRest, guardedStep}
+use Rattle.rules.specs.MarkRules.{OperandMarked, of-register, of-offset, of-factor}
 use Rattle.rules.specs.SinkRules.{
   mload,
   mstore,
@@ -56,67 +56,67 @@ use Rattle.rules.specs.SinkRules.{
 }
 use Rattle.rules.proofs.BoolLaws.{false-true, or-first, or-second, or-case}
 use Rattle.rules.proofs.ResultLaws.{require-pass, bind-pass, pass-require, pass-bind, after-step, after-sink, guard-sink, sink-guard}
-use Rattle.rules.proofs.TaintsFollow.{taintingOf, operand-taint}
+use Rattle.rules.proofs.MarksFollow.{markingOf, operand-mark}
 
 -- Tests and operands
 
 never : {X : Type 0} → false ≡ true → X
 never h = absurd (false-true h)
 
-tainted-operand : (t : Taints (cells ℕ)) (o : OlaOperand) → operandTaint (t .registers) o ≡ true → OperandTainted (taintingOf t) o true
-tainted-operand t Absent h = never h
-tainted-operand t (Immediate w) h = never h
-tainted-operand t (Register r) h = subst (OperandTainted (taintingOf t) (Register r)) h of-register
-tainted-operand t (RegisterWithOffset r w) h = subst (OperandTainted (taintingOf t) (RegisterWithOffset r w)) h of-offset
-tainted-operand t (RegisterWithFactor r w) h = subst (OperandTainted (taintingOf t) (RegisterWithFactor r w)) h of-factor
-tainted-operand t Psp h = never h
-tainted-operand t Pc h = never h
+marked-operand : (t : MarkState (cells ℕ)) (o : OlaOperand) → operandMark (t .registers) o ≡ true → OperandMarked (markingOf t) o true
+marked-operand t Absent h = never h
+marked-operand t (Immediate w) h = never h
+marked-operand t (Register r) h = subst (OperandMarked (markingOf t) (Register r)) h of-register
+marked-operand t (RegisterWithOffset r w) h = subst (OperandMarked (markingOf t) (RegisterWithOffset r w)) h of-offset
+marked-operand t (RegisterWithFactor r w) h = subst (OperandMarked (markingOf t) (RegisterWithFactor r w)) h of-factor
+marked-operand t Psp h = never h
+marked-operand t Pc h = never h
 
 -- The sinks of operands
 
-module _ (t : Taints (cells ℕ)) (i : Instruction) where
-  abbrev taint0 : Bool
-  taint0 = operandTaint (t .registers) (i .op0)
+module _ (t : MarkState (cells ℕ)) (i : Instruction) where
+  abbrev mark0 : Bool
+  mark0 = operandMark (t .registers) (i .op0)
 
-  abbrev taint1 : Bool
-  taint1 = operandTaint (t .registers) (i .op1)
+  abbrev mark1 : Bool
+  mark1 = operandMark (t .registers) (i .op1)
 
-  is0 : taint0 ≡ true → OperandTainted (taintingOf t) (i .op0) true
-  is0 h = tainted-operand t (i .op0) h
+  is0 : mark0 ≡ true → OperandMarked (markingOf t) (i .op0) true
+  is0 h = marked-operand t (i .op0) h
 
-  is1 : taint1 ≡ true → OperandTainted (taintingOf t) (i .op1) true
-  is1 h = tainted-operand t (i .op1) h
+  is1 : mark1 ≡ true → OperandMarked (markingOf t) (i .op1) true
+  is1 h = marked-operand t (i .op1) h
 
-  use-sink : {c : OlaOpcode} → OperandUse (taintingOf t) i c → operandSink (t .registers) (classOf c) i ≡ true
+  use-sink : {c : OlaOpcode} → OperandUse (markingOf t) i c → operandSink (t .registers) (classOf c) i ≡ true
   unfolding operandSink sinksOf classOf
-  use-sink (address-op0 mload h) = or-first _ (operand-taint t h)
-  use-sink (address-op0 mstore h) = or-first _ (operand-taint t h)
-  use-sink (address-op1 mload h) = or-second taint0 (or-first _ (operand-taint t h))
-  use-sink (address-op1 mstore h) = or-second taint0 (or-first _ (operand-taint t h))
-  use-sink (small-op0 and h) = or-first _ (operand-taint t h)
-  use-sink (small-op0 or h) = or-first _ (operand-taint t h)
-  use-sink (small-op0 xor h) = or-first _ (operand-taint t h)
-  use-sink (small-op0 gte h) = or-first _ (operand-taint t h)
-  use-sink (small-op1 and h) = or-second taint0 (or-first _ (operand-taint t h))
-  use-sink (small-op1 or h) = or-second taint0 (or-first _ (operand-taint t h))
-  use-sink (small-op1 xor h) = or-second taint0 (or-first _ (operand-taint t h))
-  use-sink (small-op1 gte h) = or-second taint0 (or-first _ (operand-taint t h))
-  use-sink (op1 assert h) = or-first _ (operand-taint t h)
-  use-sink (op1 rc h) = or-first _ (operand-taint t h)
-  use-sink (op1 jmp h) = or-first _ (operand-taint t h)
-  use-sink (op1 UsesOp1.call h) = or-first _ (operand-taint t h)
-  use-sink (cjmp-op0 h) = or-first _ (operand-taint t h)
-  use-sink (r9-itself UsesR9.call h) = or-second taint1 h
+  use-sink (address-op0 mload h) = or-first _ (operand-mark t h)
+  use-sink (address-op0 mstore h) = or-first _ (operand-mark t h)
+  use-sink (address-op1 mload h) = or-second mark0 (or-first _ (operand-mark t h))
+  use-sink (address-op1 mstore h) = or-second mark0 (or-first _ (operand-mark t h))
+  use-sink (small-op0 and h) = or-first _ (operand-mark t h)
+  use-sink (small-op0 or h) = or-first _ (operand-mark t h)
+  use-sink (small-op0 xor h) = or-first _ (operand-mark t h)
+  use-sink (small-op0 gte h) = or-first _ (operand-mark t h)
+  use-sink (small-op1 and h) = or-second mark0 (or-first _ (operand-mark t h))
+  use-sink (small-op1 or h) = or-second mark0 (or-first _ (operand-mark t h))
+  use-sink (small-op1 xor h) = or-second mark0 (or-first _ (operand-mark t h))
+  use-sink (small-op1 gte h) = or-second mark0 (or-first _ (operand-mark t h))
+  use-sink (op1 assert h) = or-first _ (operand-mark t h)
+  use-sink (op1 rc h) = or-first _ (operand-mark t h)
+  use-sink (op1 jmp h) = or-first _ (operand-mark t h)
+  use-sink (op1 UsesOp1.call h) = or-first _ (operand-mark t h)
+  use-sink (cjmp-op0 h) = or-first _ (operand-mark t h)
+  use-sink (r9-itself UsesR9.call h) = or-second mark1 h
   use-sink (r9-itself ret h) = h
-  use-sink (tape-op0 tload h) = or-first _ (operand-taint t h)
-  use-sink (tape-op0 tstore h) = or-first _ (operand-taint t h)
-  use-sink (tape-op0 sccall h) = or-first _ (operand-taint t h)
-  use-sink (tape-op1 tload h) = or-second taint0 (or-first _ (operand-taint t h))
-  use-sink (tape-op1 tstore h) = or-second taint0 (or-first _ (operand-taint t h))
-  use-sink (tape-op1 sccall h) = or-second taint0 (or-first _ (operand-taint t h))
-  use-sink (tload-dst h) = or-second taint0 (or-second taint1 (or-first _ (operand-taint t h)))
+  use-sink (tape-op0 tload h) = or-first _ (operand-mark t h)
+  use-sink (tape-op0 tstore h) = or-first _ (operand-mark t h)
+  use-sink (tape-op0 sccall h) = or-first _ (operand-mark t h)
+  use-sink (tape-op1 tload h) = or-second mark0 (or-first _ (operand-mark t h))
+  use-sink (tape-op1 tstore h) = or-second mark0 (or-first _ (operand-mark t h))
+  use-sink (tape-op1 sccall h) = or-second mark0 (or-first _ (operand-mark t h))
+  use-sink (tload-dst h) = or-second mark0 (or-second mark1 (or-first _ (operand-mark t h)))
 
-  sink-use : (c : OlaOpcode) → operandSink (t .registers) (classOf c) i ≡ true → OperandUse (taintingOf t) i c
+  sink-use : (c : OlaOpcode) → operandSink (t .registers) (classOf c) i ≡ true → OperandUse (markingOf t) i c
   unfolding operandSink sinksOf classOf
   sink-use O.Add h = never h
   sink-use O.Mul h = never h
@@ -143,7 +143,7 @@ module _ (t : Taints (cells ℕ)) (i : Instruction) where
   sink-use O.Tload h =
       or-case _ _ h (λ a. tape-op0 tload (is0 a)) λ k.
       or-case _ _ k (λ a. tape-op1 tload (is1 a)) λ l.
-      or-case _ _ l (λ a. tload-dst (tainted-operand t (i .dst) a)) never
+      or-case _ _ l (λ a. tload-dst (marked-operand t (i .dst) a)) never
   sink-use O.Tstore h = or-case _ _ h (λ a. tape-op0 tstore (is0 a)) λ k. or-case _ _ k (λ a. tape-op1 tstore (is1 a)) never
   sink-use O.Sccall h = or-case _ _ h (λ a. tape-op0 sccall (is0 a)) λ k. or-case _ _ k (λ a. tape-op1 sccall (is1 a)) never
   sink-use O.Sigcheck h = never h
@@ -151,30 +151,30 @@ module _ (t : Taints (cells ℕ)) (i : Instruction) where
 
 -- The sinks of what was read
 
-span-cell : (c : Cells ℕ) (a n : ℕ) → spanTaint (cells ℕ) c a n ≡ true → (x : ℕ) × (a ≤ x) × (x < a + n) × (cellTaint (cells ℕ) c x ≡ true)
-unfolding spanTaint
+span-cell : (c : Cells ℕ) (a n : ℕ) → spanMark (cells ℕ) c a n ≡ true → (x : ℕ) × (a ≤ x) × (x < a + n) × (cellMark (cells ℕ) c x ≡ true)
+unfolding spanMark
 span-cell c a zero h = never h
 span-cell c a (suc n) h =
-    or-case (cellTaint (cells ℕ) c a) (spanTaint (cells ℕ) c (suc a) n) h
+    or-case (cellMark (cells ℕ) c a) (spanMark (cells ℕ) c (suc a) n) h
     (λ k. (a, omega arith, omega arith, k))
     (λ k. let r = span-cell c (suc a) n k in let l = r .1 in let u = r .2 in (r .0, omega arith, omega arith, r .3))
 
-cell-span : (c : Cells ℕ) (a n x : ℕ) → a ≤ x → x < a + n → cellTaint (cells ℕ) c x ≡ true → spanTaint (cells ℕ) c a n ≡ true
-unfolding spanTaint
+cell-span : (c : Cells ℕ) (a n x : ℕ) → a ≤ x → x < a + n → cellMark (cells ℕ) c x ≡ true → spanMark (cells ℕ) c a n ≡ true
+unfolding spanMark
 cell-span c a zero x l u h = absurd (omega arith)
 cell-span c a (suc n) x l u h = go (λ v. cell-span c (suc a) n x v (omega arith) h) (leb (suc a) x) refl
   where
-    go : (suc a ≤ x → spanTaint (cells ℕ) c (suc a) n ≡ true) → (b : Bool) → leb (suc a) x ≡ b
-        → (cellTaint (cells ℕ) c a || spanTaint (cells ℕ) c (suc a) n) ≡ true
-    go k true q = or-second (cellTaint (cells ℕ) c a) (k (leb-true (suc a) x q))
+    go : (suc a ≤ x → spanMark (cells ℕ) c (suc a) n ≡ true) → (b : Bool) → leb (suc a) x ≡ b
+        → (cellMark (cells ℕ) c a || spanMark (cells ℕ) c (suc a) n) ≡ true
+    go k true q = or-second (cellMark (cells ℕ) c a) (k (leb-true (suc a) x q))
     go k false q =
         let v : x < suc a = leb-false (suc a) x q in
         let e : x ≡ a = omega arith in
-        or-first _ (subst (λ y. cellTaint (cells ℕ) c y ≡ true) e h)
+        or-first _ (subst (λ y. cellMark (cells ℕ) c y ≡ true) e h)
 
-module _ (e : Environment) (t : Taints (cells ℕ)) (i : Instruction) (s : State (cells ℕ)) (o : Operands) where
+module _ (e : Environment) (t : MarkState (cells ℕ)) (i : Instruction) (s : State (cells ℕ)) (o : Operands) where
   sink-read : (c : OlaOpcode) {n : Next (cells ℕ)} → operate (cells ℕ) e (classOf c) i s o ≡ pass n → readSink (cells ℕ) t (classOf c) i s o ≡ true
-      → ReadUse (taintingOf t) i e s o c
+      → ReadUse (markingOf t) i e s o c
   unfolding operate readSink classOf
   sink-read O.Add q h = never h
   sink-read O.Mul q h = never h
@@ -185,7 +185,7 @@ module _ (e : Environment) (t : Taints (cells ℕ)) (i : Instruction) (s : State
   sink-read O.Cjmp q h =
       let r = require-pass _ _ _ q in
       let v = bind-pass _ _ (r .1) in
-      cjmp-op1 (leb-true (o .op0) 1 (r .0)) (v .1) (tainted-operand t (i .op1) h)
+      cjmp-op1 (leb-true (o .op0) 1 (r .0)) (v .1) (marked-operand t (i .op1) h)
   sink-read O.Call q h = never h
   sink-read O.Ret q h =
       let v = bind-pass _ _ q in
@@ -216,36 +216,36 @@ module _ (e : Environment) (t : Taints (cells ℕ)) (i : Instruction) (s : State
   sink-read O.Sigcheck q h = never h
   sink-read O.Event q h = never h
 
-  read-sink : {c : OlaOpcode} → ReadUse (taintingOf t) i e s o c
+  read-sink : {c : OlaOpcode} → ReadUse (markingOf t) i e s o c
       → (n : Next (cells ℕ)) × (operate (cells ℕ) e (classOf c) i s o ≡ pass n) × (readSink (cells ℕ) t (classOf c) i s o ≡ true)
   unfolding operate readSink classOf
-  read-sink (cjmp-op1 l v h) = (_, pass-require _ (le-leb (o .op0) 1 l) (pass-bind _ v refl), operand-taint t h)
+  read-sink (cjmp-op1 l v h) = (_, pass-require _ (le-leb (o .op0) 1 l) (pass-bind _ v refl), operand-mark t h)
   read-sink (tstore-cell v a l u h) = (_, pass-bind _ v refl, cell-span (t .cells) (o .op0) (o .op1) a l u h)
   read-sink (sccall-cell v a l u h) = (_, pass-bind _ v refl, cell-span (t .cells) (o .op0) 4 a l u h)
   read-sink (ret-pc v w h) = (_, pass-bind _ v (pass-bind _ w refl), h)
 
 -- A whole step
 
-capacity-no-sink : (e : Environment) (n : Next (cells ℕ)) (t : Taints (cells ℕ))
-    → after {B = TaintedNext (cells ℕ)} (capacity (cells ℕ) e n) (λ n. passes (record { next = n; taints = t })) ≡ sink → ⊥
+capacity-no-sink : (e : Environment) (n : Next (cells ℕ)) (t : MarkState (cells ℕ))
+    → after {B = GuardedNext (cells ℕ)} (capacity (cells ℕ) e n) (λ n. passes (record { next = n; marks = t })) ≡ sink → ⊥
 capacity-no-sink e n t h =
     let r = after-sink (capacity (cells ℕ) e n) _ h in
-    let q : _≡_ {A = TaintedResult (TaintedNext (cells ℕ))} (passes (record { next = r .0; taints = t })) sink = r .2 in
+    let q : _≡_ {A = GuardedResult (GuardedNext (cells ℕ))} (passes (record { next = r .0; marks = t })) sink = r .2 in
     let z : _≡_ {A = ℕ} 0 1 = cc in
     omega arith
 
-pub use-stops : (e : Environment) (q : TaintedState (cells ℕ)) → ReachesUse e (q .plain) (taintingOf (q .taints)) → taintedStep (cells ℕ) e q ≡ sink
-unfolding taintedStep taintedRest
+pub use-stops : (e : Environment) (q : GuardedState (cells ℕ)) → ReachesUse e (q .plain) (markingOf (q .marks)) → guardedStep (cells ℕ) e q ≡ sink
+unfolding guardedStep guardedRest
 use-stops e q (operand {i} {o} f u) =
     after-step _ (f .fetched) ∙ after-step _ (f .read)
-    ∙ sink-guard _ _ (λ c. never (sym c ∙ use-sink (q .taints) i u))
+    ∙ sink-guard _ _ (λ c. never (sym c ∙ use-sink (q .marks) i u))
 use-stops e q (reading {i} {o} f n u) =
-    let r = read-sink e (q .taints) i (q .plain) o u in
+    let r = read-sink e (q .marks) i (q .plain) o u in
     after-step _ (f .fetched) ∙ after-step _ (f .read)
     ∙ sink-guard _ _ (λ c. after-step _ (r .1) ∙ sink-guard _ _ (λ d. never (sym d ∙ r .2)))
 
-pub stop-uses : (e : Environment) (q : TaintedState (cells ℕ)) → taintedStep (cells ℕ) e q ≡ sink → ReachesUse e (q .plain) (taintingOf (q .taints))
-unfolding taintedStep taintedRest
+pub stop-uses : (e : Environment) (q : GuardedState (cells ℕ)) → guardedStep (cells ℕ) e q ≡ sink → ReachesUse e (q .plain) (markingOf (q .marks))
+unfolding guardedStep guardedRest
 stop-uses e q h =
     let x = after-sink _ _ h in
     let i = x .0 in
@@ -253,9 +253,9 @@ stop-uses e q h =
     let o = y .0 in
     let f : Fetched e (q .plain) i o = record { fetched = x .1; read = y .1 } in
     guard-sink _ _ (y .2)
-    (λ b. operand f (sink-use (q .taints) i (i .opcode) b))
+    (λ b. operand f (sink-use (q .marks) i (i .opcode) b))
     (λ b k.
     let z = after-sink _ _ k in
     guard-sink _ _ (z .2)
-    (λ c. reading f (λ u. never (sym b ∙ use-sink (q .taints) i u)) (sink-read e (q .taints) i (q .plain) o (i .opcode) (z .1) c))
-    (λ c l. absurd (capacity-no-sink e (z .0) (taintsAfter (cells ℕ) (q .taints) (classOf (i .opcode)) i (q .plain) o) l)))
+    (λ c. reading f (λ u. never (sym b ∙ use-sink (q .marks) i u)) (sink-read e (q .marks) i (q .plain) o (i .opcode) (z .1) c))
+    (λ c l. absurd (capacity-no-sink e (z .0) (marksAfter (cells ℕ) (q .marks) (classOf (i .opcode)) i (q .plain) o) l)))

@@ -8,10 +8,10 @@ use Rattle.rules.specs.Text.{linesAfter, joinedWords, frameOfLine, loadT
 use Rattle.rules.specs.Opcodes.{classOf}
 use Rattle.rules.specs.Operands.{binaryLength, instructionAt, fetch, wantsOf, valueOf, operand, operands}
 use Rattle.rules.specs.Step.{readMany, readSpan, storeMany, operate, step, run}
-use Rattle.rules.specs.Taint.{sinksOf, operandSink, spanTaint, readSink, cleanMany, taintsAfter, taintedRest, taintedStep, taintedRun}
+use Rattle.rules.specs.Guarded.{sinksOf, operandSink, spanMark, readSink, cleanMany, marksAfter, guardedRest, guardedStep, guardedRun}
 use Rattle.rules.specs.Answers.{meaning, refusalMeaning}
-use Rattle.rules.specs.Entry.{all, plainEntry, taintedNumbersBelow, taintEntry, taintedEntry}
-use Rattle.rules.specs.Calls.{plainCall, taintedCall, plainWords, plainText, plainBudgetText, taintedWords, taintedText, taintedBudgetText}
+use Rattle.rules.specs.Entry.{all, plainEntry, markedNumbersBelow, marksEntry, guardedEntry}
+use Rattle.rules.specs.Calls.{plainCall, guardedCall, plainWords, plainText, plainBudgetText, guardedWords, guardedText, guardedBudgetText}
 use Rattle.rules.specs.Solve.{solve, kilosteps, decimal, valueLines, carriedFields, printed, solveStart}
 use Rattle.rules.specs.Encoding.{frame, bytes}
 
@@ -24,11 +24,11 @@ unfolding digitOf digitsOf wordOf opcodes selectorFits registerOf firstWordFits 
 reading = tt
 
 unfoldable pub stepping : Unit {0}
-unfolding require bind after guard classOf binaryLength instructionAt fetch wantsOf valueOf operand operands readMany readSpan storeMany operate step run sinksOf operandSink spanTaint readSink cleanMany taintsAfter taintedRest taintedStep taintedRun
+unfolding require bind after guard classOf binaryLength instructionAt fetch wantsOf valueOf operand operands readMany readSpan storeMany operate step run sinksOf operandSink spanMark readSink cleanMany marksAfter guardedRest guardedStep guardedRun
 stepping = tt
 
 unfoldable pub calling : Unit {0}
-unfolding numbers reading stepping meaning refusalMeaning all plainEntry taintedNumbersBelow taintEntry taintedEntry plainCall taintedCall plainWords plainText plainBudgetText taintedWords taintedText taintedBudgetText
+unfolding numbers reading stepping meaning refusalMeaning all plainEntry markedNumbersBelow marksEntry guardedEntry plainCall guardedCall plainWords plainText plainBudgetText guardedWords guardedText guardedBudgetText
 calling = tt
 
 unfoldable pub printing : Unit {0}

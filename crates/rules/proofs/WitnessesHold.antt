@@ -8,16 +8,16 @@ use lib.Dec.{eqb}
 use lib.ListN.{getD}
 use borrow.Author.Tests.{eqb-true}
 use Rattle.rules.specs.Answers.{Meaning}
-use Rattle.rules.specs.Entry.{TaintedSnapshot, usedNumbers, taintedRegisters, taintedCells, taintedBelow}
-use Rattle.rules.specs.Calls.{taintedWords}
-use Rattle.rules.specs.NonInterference.{TaintedBelow, EqualUnless, LowEquivalent}
+use Rattle.rules.specs.Entry.{GuardedSnapshot, usedNumbers, markedRegisters, markedCells, markedBelow}
+use Rattle.rules.specs.Calls.{guardedWords}
+use Rattle.rules.specs.NonInterference.{MarkedBelow, EqualUnless, Alike}
 use Rattle.rules.specs.Witnesses.{Witness, secret, carries, leaks, Carried, beyond, stores, Beyond, Witnesses}
 use Rattle.rules.proofs.BoolLaws.{false-true, and-left, and-right}
-use Rattle.rules.proofs.EntryLaws.{taintedBelow-at}
+use Rattle.rules.proofs.EntryLaws.{markedBelow-at}
 use Rattle.rules.proofs.Unfolding.{calling}
 use Rattle.rules.proofs.NonInterferenceHolds.{words-hold}
 
--- a test of two lists under taints, and what it says of each place
+-- a test of two lists under marks, and what it says of each place
 abbrev alikeUnder : List Bool → List ℕ → List ℕ → Bool
 alikeUnder l [] [] = true
 alikeUnder l [] (w ∷ ws) = false
@@ -42,16 +42,16 @@ places [] (v ∷ vs) (w ∷ ws) h (suc i) = places [] vs ws (and-right (eqb v w)
 places (b ∷ l) (v ∷ vs) (w ∷ ws) h zero = one-place b v w (and-left _ (alikeUnder l vs ws) h)
 places (b ∷ l) (v ∷ vs) (w ∷ ws) h (suc i) = places l vs ws (and-right (b || eqb v w) _ h) i
 
--- the same for a snapshot's tainted numbers
-below : (g : TaintedSnapshot) → taintedBelow (taintedRegisters g) (g .plain .machine .registers) ≡ true
-    → taintedBelow (taintedCells g) (usedNumbers (g .plain)) ≡ true → TaintedBelow g
+-- the same for a snapshot's marked numbers
+below : (g : GuardedSnapshot) → markedBelow (markedRegisters g) (g .plain .machine .registers) ≡ true
+    → markedBelow (markedCells g) (usedNumbers (g .plain)) ≡ true → MarkedBelow g
 below g h k =
     record {
-      registers = taintedBelow-at (taintedRegisters g) (g .plain .machine .registers) h;
-      cells = taintedBelow-at (taintedCells g) (usedNumbers (g .plain)) k;
+      registers = markedBelow-at (markedRegisters g) (g .plain .machine .registers) h;
+      cells = markedBelow-at (markedCells g) (usedNumbers (g .plain)) k;
     }
 
-secret-alike : LowEquivalent (secret 7) (secret 8)
+secret-alike : Alike (secret 7) (secret 8)
 unfolding secret calling
 secret-alike =
     record {
@@ -64,30 +64,30 @@ secret-alike =
       outputCount = refl;
       addressLength = refl;
       numberLength = refl;
-      taintLength = refl;
+      markLength = refl;
       tapeLength = refl;
       outputLength = refl;
       addresses = refl;
-      taints = refl;
+      marks = refl;
       tape = refl;
       output = refl;
-      numbers = places (taintedCells (secret 7)) (usedNumbers (secret 7 .plain)) (usedNumbers (secret 8 .plain)) refl;
-      registerTaints = refl;
+      numbers = places (markedCells (secret 7)) (usedNumbers (secret 7 .plain)) (usedNumbers (secret 8 .plain)) refl;
+      registerMarks = refl;
       ten = (refl, refl);
-      registers = places (taintedRegisters (secret 7)) (secret 7 .plain .machine .registers) (secret 8 .plain .machine .registers) refl;
+      registers = places (markedRegisters (secret 7)) (secret 7 .plain .machine .registers) (secret 8 .plain .machine .registers) refl;
     }
 
-secret-below : TaintedBelow (secret 7) × TaintedBelow (secret 8)
+secret-below : MarkedBelow (secret 7) × MarkedBelow (secret 8)
 unfolding secret calling
 secret-below = (below (secret 7) refl refl, below (secret 8) refl refl)
 
 secret-differ : secret 7 ≡ secret 8 → ⊥
 unfolding secret calling
-secret-differ e = let z : _≡_ {A = ℕ} 7 8 = ap (λ (g : TaintedSnapshot). getD (g .plain .machine .registers) 1 0) e in omega arith
+secret-differ e = let z : _≡_ {A = ℕ} 7 8 = ap (λ (g : GuardedSnapshot). getD (g .plain .machine .registers) 1 0) e in omega arith
 
 -- a pair of alike starts is a witness by what one call computes
-witness : (words : List ℕ) (budget : ℕ) (g h : TaintedSnapshot) → (g ≡ h → ⊥) → LowEquivalent g h → TaintedBelow g × TaintedBelow h
-    → (answer : Meaning) (steps : ℕ) → taintedWords words budget g .answer ≡ answer → taintedWords words budget g .steps ≡ steps
+witness : (words : List ℕ) (budget : ℕ) (g h : GuardedSnapshot) → (g ≡ h → ⊥) → Alike g h → MarkedBelow g × MarkedBelow h
+    → (answer : Meaning) (steps : ℕ) → guardedWords words budget g .answer ≡ answer → guardedWords words budget g .steps ≡ steps
     → Witness words budget g h answer steps
 witness words budget g h differ alike below answer steps a s =
     record {
@@ -108,7 +108,7 @@ carried-holds =
       eight = refl;
     }
 
-beyond-alike : LowEquivalent (beyond 3) (beyond 4)
+beyond-alike : Alike (beyond 3) (beyond 4)
 unfolding beyond calling
 beyond-alike =
     record {
@@ -121,26 +121,26 @@ beyond-alike =
       outputCount = refl;
       addressLength = refl;
       numberLength = refl;
-      taintLength = refl;
+      markLength = refl;
       tapeLength = refl;
       outputLength = refl;
       addresses = refl;
-      taints = refl;
+      marks = refl;
       tape = refl;
       output = refl;
-      numbers = places (taintedCells (beyond 3)) (usedNumbers (beyond 3 .plain)) (usedNumbers (beyond 4 .plain)) refl;
-      registerTaints = refl;
+      numbers = places (markedCells (beyond 3)) (usedNumbers (beyond 3 .plain)) (usedNumbers (beyond 4 .plain)) refl;
+      registerMarks = refl;
       ten = (refl, refl);
-      registers = places (taintedRegisters (beyond 3)) (beyond 3 .plain .machine .registers) (beyond 4 .plain .machine .registers) refl;
+      registers = places (markedRegisters (beyond 3)) (beyond 3 .plain .machine .registers) (beyond 4 .plain .machine .registers) refl;
     }
 
-beyond-below : TaintedBelow (beyond 3) × TaintedBelow (beyond 4)
+beyond-below : MarkedBelow (beyond 3) × MarkedBelow (beyond 4)
 unfolding beyond calling
 beyond-below = (below (beyond 3) refl refl, below (beyond 4) refl refl)
 
 beyond-differ : beyond 3 ≡ beyond 4 → ⊥
 unfolding beyond
-beyond-differ e = let z : _≡_ {A = ℕ} 3 4 = ap (λ (g : TaintedSnapshot). getD (g .taints) 0 0) e in omega arith
+beyond-differ e = let z : _≡_ {A = ℕ} 3 4 = ap (λ (g : GuardedSnapshot). getD (g .marks) 0 0) e in omega arith
 
 beyond-holds : Beyond
 unfolding beyond stores calling
@@ -148,7 +148,7 @@ beyond-holds =
     record {
       pauses = witness stores 1 (beyond 3) (beyond 4) beyond-differ beyond-alike beyond-below _ _ refl refl;
       addresses = refl;
-      taints = refl;
+      marks = refl;
     }
 
 pub witnesses : Witnesses

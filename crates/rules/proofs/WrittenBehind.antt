@@ -4,13 +4,13 @@ use mathlib.Core.Path.{_≡_, refl, ap, _∙_}
 use mathlib.Core.List.{List, _++_}
 use Rattle.rules.specs.declared.Instruction.{Instruction}
 use Rattle.rules.specs.declared.Refusal.the-variants.{NotInField, NotSmall, AssertFailed, RangeCheckFailed, TapeFault, StoreFault, NoCapacity}
-use Rattle.rules.specs.Results.{Result, TaintedResult}
+use Rattle.rules.specs.Results.{Result, GuardedResult}
 use Rattle.rules.specs.Cells.{cells}
 use Rattle.rules.specs.Opcodes.{Class, field, equality, small, complement, move, assert, rangeCheck, jump, conditionalJump, call, return, load, store, tapeLoad, tapeStore, contractCall, end, uncovered, classOf}
 use Rattle.rules.specs.Operands.{Operands}
 use Rattle.rules.specs.Step.{Environment, State, Next, overlay, operate, capacity, step, Ran, onStep, run}
-use Rattle.rules.specs.Taint.{Taints, readSink, taintsAfter, TaintedState, TaintedNext, taintedRest, taintedStep, onTaintedStep, taintedRun}
-use Rattle.rules.specs.Relations.{Both, refused, passed, BothTainted, refused-alike, sink-alike, passed-alike, BothRan}
+use Rattle.rules.specs.Guarded.{MarkState, readSink, marksAfter, GuardedState, GuardedNext, guardedRest, guardedStep, onGuardedStep, guardedRun}
+use Rattle.rules.specs.Relations.{Both, refused, passed, BothGuarded, refused-alike, sink-alike, passed-alike, BothRan}
 use Rattle.rules.proofs.OverlayLaws.{overlay-overlay}
 use Rattle.rules.proofs.Relational.{both-bind, both-bind-equal, both-require, both-after, both-after-equal, both-guard, both-finish}
 
@@ -59,7 +59,7 @@ module _ (w : List ℕ) (e : Environment) (i : Instruction) (s : State (cells �
   operate-behind end = passed (next-behind v h)
   operate-behind uncovered = refused
 
-  sinks-behind : (t : Taints (cells ℕ)) (c : Class) → readSink (cells ℕ) t c i s o ≡ readSink (cells ℕ) t c i (withWritten s v) o
+  sinks-behind : (t : MarkState (cells ℕ)) (c : Class) → readSink (cells ℕ) t c i s o ≡ readSink (cells ℕ) t c i (withWritten s v) o
   unfolding readSink
   sinks-behind t (field f) = refl
   sinks-behind t (equality f) = refl
@@ -80,26 +80,26 @@ module _ (w : List ℕ) (e : Environment) (i : Instruction) (s : State (cells �
   sinks-behind t end = refl
   sinks-behind t uncovered = refl
 
-  taints-behind : (t : Taints (cells ℕ)) (c : Class) → taintsAfter (cells ℕ) t c i s o ≡ taintsAfter (cells ℕ) t c i (withWritten s v) o
-  unfolding taintsAfter
-  taints-behind t (field f) = refl
-  taints-behind t (equality f) = refl
-  taints-behind t (small f) = refl
-  taints-behind t complement = refl
-  taints-behind t move = refl
-  taints-behind t assert = refl
-  taints-behind t rangeCheck = refl
-  taints-behind t jump = refl
-  taints-behind t conditionalJump = refl
-  taints-behind t call = refl
-  taints-behind t return = refl
-  taints-behind t load = refl
-  taints-behind t store = refl
-  taints-behind t tapeLoad = refl
-  taints-behind t tapeStore = refl
-  taints-behind t contractCall = refl
-  taints-behind t end = refl
-  taints-behind t uncovered = refl
+  marks-behind : (t : MarkState (cells ℕ)) (c : Class) → marksAfter (cells ℕ) t c i s o ≡ marksAfter (cells ℕ) t c i (withWritten s v) o
+  unfolding marksAfter
+  marks-behind t (field f) = refl
+  marks-behind t (equality f) = refl
+  marks-behind t (small f) = refl
+  marks-behind t complement = refl
+  marks-behind t move = refl
+  marks-behind t assert = refl
+  marks-behind t rangeCheck = refl
+  marks-behind t jump = refl
+  marks-behind t conditionalJump = refl
+  marks-behind t call = refl
+  marks-behind t return = refl
+  marks-behind t load = refl
+  marks-behind t store = refl
+  marks-behind t tapeLoad = refl
+  marks-behind t tapeStore = refl
+  marks-behind t contractCall = refl
+  marks-behind t end = refl
+  marks-behind t uncovered = refl
 
 capacity-behind : (w : List ℕ) (e : Environment) {n m : Next (cells ℕ)} → NextBehind w n m
     → Both (NextBehind w) (capacity (cells ℕ) e n) (capacity (cells ℕ) e m)
@@ -129,41 +129,41 @@ unfolding run
 run-behind w e zero s t h = record { answer = refl; steps = refl; state = h }
 run-behind w e (suc budget) s t h = on-step-behind w (run (cells ℕ) e budget) h (step-behind w e h) (run-behind w e budget)
 
--- The tainted step and run
+-- The guarded step and run
 
-pub data TaintedBehind (w : List ℕ) : TaintedState (cells ℕ) → TaintedState (cells ℕ) → Type 0 where
-  tainted-behind : {s t : State (cells ℕ)} {u : Taints (cells ℕ)} → Behind w s t
-      → TaintedBehind w (record { plain = s; taints = u }) (record { plain = t; taints = u })
+pub data GuardedBehind (w : List ℕ) : GuardedState (cells ℕ) → GuardedState (cells ℕ) → Type 0 where
+  guarded-behind : {s t : State (cells ℕ)} {u : MarkState (cells ℕ)} → Behind w s t
+      → GuardedBehind w (record { plain = s; marks = u }) (record { plain = t; marks = u })
 
-data TaintedNextBehind (w : List ℕ) : TaintedNext (cells ℕ) → TaintedNext (cells ℕ) → Type 0 where
-  tainted-next-behind : {n m : Next (cells ℕ)} {u : Taints (cells ℕ)} → NextBehind w n m
-      → TaintedNextBehind w (record { next = n; taints = u }) (record { next = m; taints = u })
+data GuardedNextBehind (w : List ℕ) : GuardedNext (cells ℕ) → GuardedNext (cells ℕ) → Type 0 where
+  guarded-next-behind : {n m : Next (cells ℕ)} {u : MarkState (cells ℕ)} → NextBehind w n m
+      → GuardedNextBehind w (record { next = n; marks = u }) (record { next = m; marks = u })
 
-tainted-step-behind : (w : List ℕ) (e : Environment) {q r : TaintedState (cells ℕ)} → TaintedBehind w q r
-    → BothTainted (TaintedNextBehind w) (taintedStep (cells ℕ) e q) (taintedStep (cells ℕ) e r)
-unfolding taintedStep taintedRest
-tainted-step-behind w e (tainted-behind {u = u} (behind {s} v h)) =
+guarded-step-behind : (w : List ℕ) (e : Environment) {q r : GuardedState (cells ℕ)} → GuardedBehind w q r
+    → BothGuarded (GuardedNextBehind w) (guardedStep (cells ℕ) e q) (guardedStep (cells ℕ) e r)
+unfolding guardedStep guardedRest
+guarded-step-behind w e (guarded-behind {u = u} (behind {s} v h)) =
     both-after-equal _ _ refl λ i.
     both-after-equal _ _ refl λ o.
     both-guard refl
     (both-after _ _ (operate-behind w e i s v o h (classOf (i .opcode))) λ n m k.
     both-guard (sinks-behind w e i s v o h u (classOf (i .opcode)))
     (both-after _ _ (capacity-behind w e k) λ n m k.
-    rw (← (taints-behind w e i s v o h u (classOf (i .opcode)))) (passed-alike (tainted-next-behind k))))
+    rw (← (marks-behind w e i s v o h u (classOf (i .opcode)))) (passed-alike (guarded-next-behind k))))
 
-on-tainted-step-behind : (w : List ℕ) {q r : TaintedState (cells ℕ)} {x y : TaintedResult (TaintedNext (cells ℕ))}
-    (k : TaintedState (cells ℕ) → Ran (TaintedState (cells ℕ))) → TaintedBehind w q r → BothTainted (TaintedNextBehind w) x y
-    → ((q r : TaintedState (cells ℕ)) → TaintedBehind w q r → BothRan (TaintedBehind w) (k q) (k r))
-    → BothRan (TaintedBehind w) (onTaintedStep (cells ℕ) q x k) (onTaintedStep (cells ℕ) r y k)
-on-tainted-step-behind w k b refused-alike g = record { answer = refl; steps = refl; state = b }
-on-tainted-step-behind w k b sink-alike g = record { answer = refl; steps = refl; state = b }
-on-tainted-step-behind w k b (passed-alike (tainted-next-behind {u = u} (next-behind {n} v h))) g =
-    let c : TaintedBehind w (record { plain = n .state; taints = u }) (record { plain = withWritten (n .state) v; taints = u }) = tainted-behind (behind v h) in
-    both-finish (TaintedBehind w) {f = n .finish} {m = n .state .clk} _ _ k k refl refl c (g _ _ c)
+on-guarded-step-behind : (w : List ℕ) {q r : GuardedState (cells ℕ)} {x y : GuardedResult (GuardedNext (cells ℕ))}
+    (k : GuardedState (cells ℕ) → Ran (GuardedState (cells ℕ))) → GuardedBehind w q r → BothGuarded (GuardedNextBehind w) x y
+    → ((q r : GuardedState (cells ℕ)) → GuardedBehind w q r → BothRan (GuardedBehind w) (k q) (k r))
+    → BothRan (GuardedBehind w) (onGuardedStep (cells ℕ) q x k) (onGuardedStep (cells ℕ) r y k)
+on-guarded-step-behind w k b refused-alike g = record { answer = refl; steps = refl; state = b }
+on-guarded-step-behind w k b sink-alike g = record { answer = refl; steps = refl; state = b }
+on-guarded-step-behind w k b (passed-alike (guarded-next-behind {u = u} (next-behind {n} v h))) g =
+    let c : GuardedBehind w (record { plain = n .state; marks = u }) (record { plain = withWritten (n .state) v; marks = u }) = guarded-behind (behind v h) in
+    both-finish (GuardedBehind w) {f = n .finish} {m = n .state .clk} _ _ k k refl refl c (g _ _ c)
 
-pub tainted-run-behind : (w : List ℕ) (e : Environment) (budget : ℕ) (q r : TaintedState (cells ℕ)) → TaintedBehind w q r
-    → BothRan (TaintedBehind w) (taintedRun (cells ℕ) e budget q) (taintedRun (cells ℕ) e budget r)
-unfolding taintedRun
-tainted-run-behind w e zero q r h = record { answer = refl; steps = refl; state = h }
-tainted-run-behind w e (suc budget) q r h =
-    on-tainted-step-behind w (taintedRun (cells ℕ) e budget) h (tainted-step-behind w e h) (tainted-run-behind w e budget)
+pub guarded-run-behind : (w : List ℕ) (e : Environment) (budget : ℕ) (q r : GuardedState (cells ℕ)) → GuardedBehind w q r
+    → BothRan (GuardedBehind w) (guardedRun (cells ℕ) e budget q) (guardedRun (cells ℕ) e budget r)
+unfolding guardedRun
+guarded-run-behind w e zero q r h = record { answer = refl; steps = refl; state = h }
+guarded-run-behind w e (suc budget) q r h =
+    on-guarded-step-behind w (guardedRun (cells ℕ) e budget) h (guarded-step-behind w e h) (guarded-run-behind w e budget)

@@ -1,4 +1,4 @@
--- Which places an opcode writes, and the taints of cells that were stored or cleaned.
+-- Which places an opcode writes, and the marks of cells that were stored or cleaned.
 use Prim.Native.Nat.{ℕ, suc, _+_, _-_, _≤_, _<_}
 use mathlib.Core.Path.{_≡_, refl, ap, subst, _∙_}
 use mathlib.Core.Bool.{Bool, true, false}
@@ -14,42 +14,42 @@ use Rattle.rules.specs.Field.{fieldAdd}
 use Rattle.rules.specs.Cells.{Cells, put, cells}
 use Rattle.rules.specs.Operands.{Operands}
 use Rattle.rules.specs.Step.{State, r9, tapeValues}
-use Rattle.rules.specs.Taint.{slotTaint, cellTaint, cleanMany}
-use Rattle.rules.specs.TaintRules.{Place, register, cell, FromBoth, FromOne, add, mul, eq, neq, and, or, xor, gte, not, mov, Writes, both, one, mload, ret, mstore, call, tload}
+use Rattle.rules.specs.Guarded.{slotMark, cellMark, cleanMany}
+use Rattle.rules.specs.MarkRules.{Place, register, cell, FromBoth, FromOne, add, mul, eq, neq, and, or, xor, gte, not, mov, Writes, both, one, mload, ret, mstore, call, tload}
 use Rattle.rules.proofs.CellLaws.{get-put-same, get-put-other}
 
 -- Cells that were cleaned
 
-pub stored-taint : (c : Cells ℕ) (a : ℕ) (b : Bool) → cellTaint (cells ℕ) (put c a (bit b)) a ≡ b
-stored-taint c a b = ap (slotTaint (cells ℕ)) (get-put-same c a (bit b)) ∙ go b
+pub stored-mark : (c : Cells ℕ) (a : ℕ) (b : Bool) → cellMark (cells ℕ) (put c a (bit b)) a ≡ b
+stored-mark c a b = ap (slotMark (cells ℕ)) (get-put-same c a (bit b)) ∙ go b
   where
     go : (b : Bool) → eqb (bit b) 1 ≡ b
     go true = refl
     go false = refl
 
-pub other-taint : (c : Cells ℕ) (a v x : ℕ) → (a ≡ x → ⊥) → cellTaint (cells ℕ) (put c a v) x ≡ cellTaint (cells ℕ) c x
-other-taint c a v x h = ap (slotTaint (cells ℕ)) (get-put-other c a v x h)
+pub other-mark : (c : Cells ℕ) (a v x : ℕ) → (a ≡ x → ⊥) → cellMark (cells ℕ) (put c a v) x ≡ cellMark (cells ℕ) c x
+other-mark c a v x h = ap (slotMark (cells ℕ)) (get-put-other c a v x h)
 
 pub clean-outside : (c : Cells ℕ) (a : ℕ) (vs : List ℕ) (x : ℕ) → (a ≤ x → x < a + length vs → ⊥)
-    → cellTaint (cells ℕ) (cleanMany (cells ℕ) c a vs) x ≡ cellTaint (cells ℕ) c x
+    → cellMark (cells ℕ) (cleanMany (cells ℕ) c a vs) x ≡ cellMark (cells ℕ) c x
 unfolding cleanMany
 clean-outside c a [] x h = refl
 clean-outside c a (v ∷ vs) x h =
     clean-outside (put c a 0) (suc a) vs x (λ l u. h (omega arith) (omega arith))
-    ∙ other-taint c a 0 x (λ e. h (omega arith) (omega arith))
+    ∙ other-mark c a 0 x (λ e. h (omega arith) (omega arith))
 
-pub clean-inside : (c : Cells ℕ) (a : ℕ) (vs : List ℕ) (x : ℕ) → a ≤ x → x < a + length vs → cellTaint (cells ℕ) (cleanMany (cells ℕ) c a vs) x ≡ false
+pub clean-inside : (c : Cells ℕ) (a : ℕ) (vs : List ℕ) (x : ℕ) → a ≤ x → x < a + length vs → cellMark (cells ℕ) (cleanMany (cells ℕ) c a vs) x ≡ false
 unfolding cleanMany
 clean-inside c a [] x l u = absurd (omega arith)
 clean-inside c a (v ∷ vs) x l u = go (λ k. clean-inside (put c a 0) (suc a) vs x k (omega arith)) (ltb a x) refl
   where
-    go : (suc a ≤ x → cellTaint (cells ℕ) (cleanMany (cells ℕ) (put c a 0) (suc a) vs) x ≡ false) → (b : Bool) → ltb a x ≡ b
-        → cellTaint (cells ℕ) (cleanMany (cells ℕ) (put c a 0) (suc a) vs) x ≡ false
+    go : (suc a ≤ x → cellMark (cells ℕ) (cleanMany (cells ℕ) (put c a 0) (suc a) vs) x ≡ false) → (b : Bool) → ltb a x ≡ b
+        → cellMark (cells ℕ) (cleanMany (cells ℕ) (put c a 0) (suc a) vs) x ≡ false
     go rest true e = rest (ltb-true a x e)
     go rest false e =
         let m : x ≤ a = ltb-false a x e in
         clean-outside (put c a 0) (suc a) vs x (λ l u. omega arith)
-        ∙ subst (λ y. cellTaint (cells ℕ) (put c a 0) y ≡ false) (let y : a ≡ x = omega arith in y) (stored-taint c a false)
+        ∙ subst (λ y. cellMark (cells ℕ) (put c a 0) y ≡ false) (let y : a ≡ x = omega arith in y) (stored-mark c a false)
 
 -- Which places an opcode does not write
 

@@ -36,4 +36,4 @@ meaning (A.Calling a b c d) = outcome 1 (a ∷ b ∷ c ∷ d ∷ [])
 meaning (A.DelegateCalling a b c d) = outcome 2 (a ∷ b ∷ c ∷ d ∷ [])
 meaning A.Paused = outcome 3 []
 meaning (A.Refused f) = refusalMeaning f
-meaning A.TaintedSink = refusal 18 []
+meaning A.MarkedSink = refusal 18 []

@@ -10,9 +10,9 @@ use Rattle.rules.specs.Frames.{loadWords}
 use Rattle.rules.specs.Text.{Job, loadText, loadBudgetText}
 use Rattle.rules.specs.Cells.{cells}
 use Rattle.rules.specs.Step.{State, Ran, run}
-use Rattle.rules.specs.Taint.{TaintedState, taintedRun}
+use Rattle.rules.specs.Guarded.{GuardedState, guardedRun}
 use Rattle.rules.specs.Answers.{Meaning, meaning, refusalMeaning}
-use Rattle.rules.specs.Entry.{Snapshot, TaintedSnapshot, plainEntry, taintedEntry, environment, stateOf, taintedStateOf, snapshotAfter, taintedSnapshotAfter}
+use Rattle.rules.specs.Entry.{Snapshot, GuardedSnapshot, plainEntry, guardedEntry, environment, stateOf, guardedStateOf, snapshotAfter, guardedSnapshotAfter}
 
 -- the answer, the steps, and all that was handed in as it is afterwards
 pub record Called (S : Type 0) : Type 0 where
@@ -27,23 +27,23 @@ refused f s = record { answer = refusalMeaning f; steps = 0; left = s }
 abbrev pub plainRunOf : List Instruction → ℕ → Snapshot → Ran (State (cells ℕ))
 plainRunOf program budget s = run (cells ℕ) (environment program s) budget (stateOf s)
 
-abbrev pub taintedRunOf : List Instruction → ℕ → TaintedSnapshot → Ran (TaintedState (cells ℕ))
-taintedRunOf program budget g = taintedRun (cells ℕ) (environment program (g .plain)) budget (taintedStateOf g)
+abbrev pub guardedRunOf : List Instruction → ℕ → GuardedSnapshot → Ran (GuardedState (cells ℕ))
+guardedRunOf program budget g = guardedRun (cells ℕ) (environment program (g .plain)) budget (guardedStateOf g)
 
 abbrev pub plainAnswered : Snapshot → Ran (State (cells ℕ)) → Called Snapshot
 plainAnswered s r = record { answer = meaning (r .answer); steps = r .steps; left = snapshotAfter s (r .state) }
 
-abbrev pub taintedAnswered : TaintedSnapshot → Ran (TaintedState (cells ℕ)) → Called TaintedSnapshot
-taintedAnswered g r = record { answer = meaning (r .answer); steps = r .steps; left = taintedSnapshotAfter g (r .state) }
+abbrev pub guardedAnswered : GuardedSnapshot → Ran (GuardedState (cells ℕ)) → Called GuardedSnapshot
+guardedAnswered g r = record { answer = meaning (r .answer); steps = r .steps; left = guardedSnapshotAfter g (r .state) }
 
 -- of a program as loaded
 unfoldable pub plainCall : Result (List Instruction) → ℕ → Snapshot → Called Snapshot
 plainCall (refuse f) budget s = refused f s
 plainCall (pass program) budget s = choose (plainEntry s) (plainAnswered s (plainRunOf program budget s)) (refused BadState s)
 
-unfoldable pub taintedCall : Result (List Instruction) → ℕ → TaintedSnapshot → Called TaintedSnapshot
-taintedCall (refuse f) budget g = refused f g
-taintedCall (pass program) budget g = choose (taintedEntry g) (taintedAnswered g (taintedRunOf program budget g)) (refused BadState g)
+unfoldable pub guardedCall : Result (List Instruction) → ℕ → GuardedSnapshot → Called GuardedSnapshot
+guardedCall (refuse f) budget g = refused f g
+guardedCall (pass program) budget g = choose (guardedEntry g) (guardedAnswered g (guardedRunOf program budget g)) (refused BadState g)
 
 -- a text's own budget; 0 where the text is refused, which no answer shows
 abbrev pub jobBudget : Result Job → ℕ
@@ -65,11 +65,11 @@ plainText text budget s = plainCall (loadText text) budget s
 unfoldable pub plainBudgetText : List ℕ → Snapshot → Called Snapshot
 plainBudgetText text s = plainCall (jobProgram (loadBudgetText text)) (jobBudget (loadBudgetText text)) s
 
-unfoldable pub taintedWords : List ℕ → ℕ → TaintedSnapshot → Called TaintedSnapshot
-taintedWords words budget g = taintedCall (loadWords words) budget g
+unfoldable pub guardedWords : List ℕ → ℕ → GuardedSnapshot → Called GuardedSnapshot
+guardedWords words budget g = guardedCall (loadWords words) budget g
 
-unfoldable pub taintedText : List ℕ → ℕ → TaintedSnapshot → Called TaintedSnapshot
-taintedText text budget g = taintedCall (loadText text) budget g
+unfoldable pub guardedText : List ℕ → ℕ → GuardedSnapshot → Called GuardedSnapshot
+guardedText text budget g = guardedCall (loadText text) budget g
 
-unfoldable pub taintedBudgetText : List ℕ → TaintedSnapshot → Called TaintedSnapshot
-taintedBudgetText text g = taintedCall (jobProgram (loadBudgetText text)) (jobBudget (loadBudgetText text)) g
+unfoldable pub guardedBudgetText : List ℕ → GuardedSnapshot → Called GuardedSnapshot
+guardedBudgetText text g = guardedCall (jobProgram (loadBudgetText text)) (jobBudget (loadBudgetText text)) g

@@ -8,7 +8,7 @@ use Rattle.rules.specs.declared.OlaOperand.the-variants.{Absent, Immedia
 use Rattle.rules.specs.Answers.{outcome}
 use Rattle.rules.specs.Solve.{kilosteps, solve}
 use Rattle.rules.specs.Encoding.{frame, bytes}
-use Rattle.rules.specs.Rows.{start, withR, withTaintedR, withCell, withTape, withClk, Row, row, Hold, plain, tainted, e0, e3, refused, nothing, registerAt, cellAt, cellCount, clkOf, taintedRegisterAt}
+use Rattle.rules.specs.Rows.{start, withR, withMarkedR, withCell, withTape, withClk, Row, row, Hold, plain, guarded, e0, e3, refused, nothing, registerAt, cellAt, cellCount, clkOf, markedRegisterAt}
 
 -- The starred cases
 
@@ -75,8 +75,8 @@ starred =
     -- budget 0: e3, 0 steps
     ∷ row (plain 0 (add 0 1) start) (registerAt 0) e3 0 (7 ∷ [])
     -- guarded EQ of marked r1 with itself gives a marked 1; CJMP on it: 18
-    ∷ row (tainted 1 equalThenJump (withTaintedR 1 9 start)) (taintedRegisterAt 0) e3 1 (1 ∷ 1 ∷ [])
-    ∷ row (tainted 2 equalThenJump (withTaintedR 1 9 start)) (taintedRegisterAt 0) (refused 18) 1 (1 ∷ 1 ∷ [])
+    ∷ row (guarded 1 equalThenJump (withMarkedR 1 9 start)) (markedRegisterAt 0) e3 1 (1 ∷ 1 ∷ [])
+    ∷ row (guarded 2 equalThenJump (withMarkedR 1 9 start)) (markedRegisterAt 0) (refused 18) 1 (1 ∷ 1 ∷ [])
     ∷ []
 
 abbrev pub StarredHold : Type 0

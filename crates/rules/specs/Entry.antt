@@ -10,7 +10,7 @@ use Rattle.rules.specs.Numbers.{p, heapEnd, clockEnd, cellLimit, valueLi
 use Rattle.rules.specs.Cells as Cells
 use Rattle.rules.specs.Cells.{cells, zipped}
 use Rattle.rules.specs.Step.{Environment, State, isStorable, overlay}
-use Rattle.rules.specs.Taint.{TaintedState}
+use Rattle.rules.specs.Guarded.{GuardedState}
 
 -- the machine and the buffers, whole
 pub record Snapshot : Type 0 where
@@ -20,11 +20,11 @@ pub record Snapshot : Type 0 where
   pub tape : List ℕ
   pub output : List ℕ
 
--- for a tainted run also the cells' taints, and a word whose bit r is the taint of register r
-pub record TaintedSnapshot : Type 0 where
+-- for a guarded run also the cells' marks, and a word whose bit r is the mark of register r
+pub record GuardedSnapshot : Type 0 where
   pub plain : Snapshot
-  pub taints : List ℕ
-  pub registerTaints : ℕ
+  pub marks : List ℕ
+  pub registerMarks : ℕ
 
 -- The used parts: each buffer as far as its count and its length go
 
@@ -40,8 +40,8 @@ usedTape s = take (s .machine .«tape_count») (s .tape)
 abbrev pub usedOutput : Snapshot → List ℕ
 usedOutput s = take (s .machine .«output_count») (s .output)
 
-abbrev pub usedTaints : TaintedSnapshot → List ℕ
-usedTaints g = take (g .plain .machine .«cell_count») (g .taints)
+abbrev pub usedMarks : GuardedSnapshot → List ℕ
+usedMarks g = take (g .plain .machine .«cell_count») (g .marks)
 
 -- the n lowest bits of a word, the lowest first; and the word of bits
 abbrev pub lowBits : ℕ → ℕ → List Bool
@@ -52,12 +52,12 @@ abbrev pub wordOfBits : List Bool → ℕ
 wordOfBits [] = 0
 wordOfBits (b ∷ bs) = bit b + 2 * wordOfBits bs
 
--- the taints of R0 to R9, and of the used cells
-abbrev pub taintedRegisters : TaintedSnapshot → List Bool
-taintedRegisters g = lowBits 10 (g .registerTaints)
+-- the marks of R0 to R9, and of the used cells
+abbrev pub markedRegisters : GuardedSnapshot → List Bool
+markedRegisters g = lowBits 10 (g .registerMarks)
 
-abbrev pub taintedCells : TaintedSnapshot → List Bool
-taintedCells g = map (λ t. eqb t 1) (usedTaints g)
+abbrev pub markedCells : GuardedSnapshot → List Bool
+markedCells g = map (λ t. eqb t 1) (usedMarks g)
 
 -- Refusal 3
 
@@ -70,11 +70,11 @@ abbrev pub risingFrom : ℕ → List ℕ → Bool
 risingFrom n [] = true
 risingFrom n (a ∷ l) = leb n a && (ltb a heapEnd && risingFrom (suc a) l)
 
--- each tainted number is below p
-abbrev pub taintedBelow : List Bool → List ℕ → Bool
-taintedBelow [] ns = true
-taintedBelow (t ∷ ts) [] = true
-taintedBelow (t ∷ ts) (n ∷ ns) = (not t || ltb n p) && taintedBelow ts ns
+-- each marked number is below p
+abbrev pub markedBelow : List Bool → List ℕ → Bool
+markedBelow [] ns = true
+markedBelow (t ∷ ts) [] = true
+markedBelow (t ∷ ts) (n ∷ ns) = (not t || ltb n p) && markedBelow ts ns
 
 -- all tests pass
 unfoldable pub all : List Bool → Bool
@@ -97,26 +97,26 @@ plainEntry s =
     ∷ every isStorable (usedNumbers s)
     ∷ [])
 
--- each tainted number, of registers and of cells
-unfoldable pub taintedNumbersBelow : TaintedSnapshot → Bool
-taintedNumbersBelow g =
+-- each marked number, of registers and of cells
+unfoldable pub markedNumbersBelow : GuardedSnapshot → Bool
+markedNumbersBelow g =
     all
-    (taintedBelow (taintedRegisters g) (g .plain .machine .registers)
-    ∷ taintedBelow (taintedCells g) (usedNumbers (g .plain))
+    (markedBelow (markedRegisters g) (g .plain .machine .registers)
+    ∷ markedBelow (markedCells g) (usedNumbers (g .plain))
     ∷ [])
 
--- the tests that only a tainted call has
-unfoldable pub taintEntry : TaintedSnapshot → Bool
-taintEntry g =
+-- the tests that only a guarded call has
+unfoldable pub marksEntry : GuardedSnapshot → Bool
+marksEntry g =
     all
-    (eqb (length (g .taints)) (length (g .plain .addresses))
-    ∷ every (λ t. leb t 1) (usedTaints g)
-    ∷ ltb (g .registerTaints) 1024
-    ∷ taintedNumbersBelow g
+    (eqb (length (g .marks)) (length (g .plain .addresses))
+    ∷ every (λ t. leb t 1) (usedMarks g)
+    ∷ ltb (g .registerMarks) 1024
+    ∷ markedNumbersBelow g
     ∷ [])
 
-unfoldable pub taintedEntry : TaintedSnapshot → Bool
-taintedEntry g = all (plainEntry (g .plain) ∷ taintEntry g ∷ [])
+unfoldable pub guardedEntry : GuardedSnapshot → Bool
+guardedEntry g = all (plainEntry (g .plain) ∷ marksEntry g ∷ [])
 
 -- The state that a snapshot stands for
 
@@ -143,11 +143,11 @@ stateOf s =
       written = usedOutput s;
     }
 
-abbrev pub taintedStateOf : TaintedSnapshot → TaintedState (cells ℕ)
-taintedStateOf g =
+abbrev pub guardedStateOf : GuardedSnapshot → GuardedState (cells ℕ)
+guardedStateOf g =
     record {
       plain = stateOf (g .plain);
-      taints = record { registers = taintedRegisters g; cells = zipped (usedAddresses (g .plain)) (usedTaints g) };
+      marks = record { registers = markedRegisters g; cells = zipped (usedAddresses (g .plain)) (usedMarks g) };
     }
 
 -- The snapshot that a state leaves: what is used, and behind it what stood there
@@ -171,10 +171,10 @@ snapshotAfter s t =
       output = overlay (t .written) (s .output);
     }
 
-abbrev pub taintedSnapshotAfter : TaintedSnapshot → TaintedState (cells ℕ) → TaintedSnapshot
-taintedSnapshotAfter g q =
+abbrev pub guardedSnapshotAfter : GuardedSnapshot → GuardedState (cells ℕ) → GuardedSnapshot
+guardedSnapshotAfter g q =
     record {
       plain = snapshotAfter (g .plain) (q .plain);
-      taints = overlay (Cells.contents (q .taints .cells)) (g .taints);
-      registerTaints = wordOfBits (q .taints .registers);
+      marks = overlay (Cells.contents (q .marks .cells)) (g .marks);
+      registerMarks = wordOfBits (q .marks .registers);
     }

@@ -7,7 +7,7 @@ use lib.ListN.{replicate}
 use Rattle.rules.specs.Numbers.{defaultPsp}
 use Rattle.rules.specs.Answers.{Meaning, refusal}
 use Rattle.rules.specs.Entry.{Snapshot}
-use Rattle.rules.specs.Calls.{Called, plainWords, plainText, plainBudgetText, taintedWords}
+use Rattle.rules.specs.Calls.{Called, plainWords, plainText, plainBudgetText, guardedWords}
 use Rattle.rules.specs.Encoding.{bytes}
 use Rattle.rules.specs.Rows.{start, snapshot, Row, row, Hold, plain, e0, e3, refused, nothing}
 use Rattle.rules.specs.RefusalOrder.{endLines}
@@ -184,33 +184,33 @@ stateRefusals =
     ∷ passedState (withCells (5 ∷ 6 ∷ 0 ∷ []) (0 ∷ 0xFFFFFFFF00000001 ∷ 0xFFFFFFFF00000002 ∷ []))
     ∷ []
 
--- two cells, the second p, and one unused, with these taints; R0 is p, R1 is p - 1, with this word of taints
-abbrev taintedRow : List ℕ → ℕ → Meaning → ℕ → Row
-taintedRow ts r answer steps =
+-- two cells, the second p, and one unused, with these marks; R0 is p, R1 is p - 1, with this word of marks
+abbrev markedRow : List ℕ → ℕ → Meaning → ℕ → Row
+markedRow ts r answer steps =
     row
-    (taintedWords (0xb ∷ []) 1
-    (record { plain = withCells (5 ∷ 6 ∷ 0 ∷ []) (0xFFFFFFFF00000000 ∷ 0xFFFFFFFF00000001 ∷ 0 ∷ []); taints = ts; registerTaints = r }))
+    (guardedWords (0xb ∷ []) 1
+    (record { plain = withCells (5 ∷ 6 ∷ 0 ∷ []) (0xFFFFFFFF00000000 ∷ 0xFFFFFFFF00000001 ∷ 0 ∷ []); marks = ts; registerMarks = r }))
     nothing
     answer
     steps
     []
 
-unfoldable pub taintRefusals : List Row
-taintRefusals =
-    taintedRow (0 ∷ 0 ∷ 0 ∷ []) 0 e0 1
+unfoldable pub markRefusals : List Row
+markRefusals =
+    markedRow (0 ∷ 0 ∷ 0 ∷ []) 0 e0 1
     -- a mark not 0 or 1; an unused one may be anything
-    ∷ taintedRow (2 ∷ 0 ∷ 0 ∷ []) 0 (refused 3) 0
-    ∷ taintedRow (1 ∷ 0 ∷ 2 ∷ []) 0 e0 1
+    ∷ markedRow (2 ∷ 0 ∷ 0 ∷ []) 0 (refused 3) 0
+    ∷ markedRow (1 ∷ 0 ∷ 2 ∷ []) 0 e0 1
     -- a register mark beyond R9
-    ∷ taintedRow (0 ∷ 0 ∷ 0 ∷ []) 0x400 (refused 3) 0
-    ∷ taintedRow (0 ∷ 0 ∷ 0 ∷ []) 0x3fe e0 1
+    ∷ markedRow (0 ∷ 0 ∷ 0 ∷ []) 0x400 (refused 3) 0
+    ∷ markedRow (0 ∷ 0 ∷ 0 ∷ []) 0x3fe e0 1
     -- a marked number not below p: a cell's, a register's
-    ∷ taintedRow (0 ∷ 1 ∷ 0 ∷ []) 0 (refused 3) 0
-    ∷ taintedRow (0 ∷ 0 ∷ 0 ∷ []) 1 (refused 3) 0
+    ∷ markedRow (0 ∷ 1 ∷ 0 ∷ []) 0 (refused 3) 0
+    ∷ markedRow (0 ∷ 0 ∷ 0 ∷ []) 1 (refused 3) 0
     -- cell slices of unequal length
-    ∷ taintedRow (0 ∷ 0 ∷ []) 0 (refused 3) 0
-    ∷ taintedRow (0 ∷ 0 ∷ 0 ∷ 0 ∷ []) 0 (refused 3) 0
+    ∷ markedRow (0 ∷ 0 ∷ []) 0 (refused 3) 0
+    ∷ markedRow (0 ∷ 0 ∷ 0 ∷ 0 ∷ []) 0 (refused 3) 0
     ∷ []
 
 abbrev pub StateRefusalsHold : Type 0
-StateRefusalsHold = Hold stateRefusals × Hold taintRefusals
+StateRefusalsHold = Hold stateRefusals × Hold markRefusals

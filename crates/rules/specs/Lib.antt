@@ -11,7 +11,7 @@ pub mod Memory
 pub mod Cells
 pub mod PlainMap
 pub mod Step
-pub mod Taint
+pub mod Guarded
 pub mod Answers
 pub mod Entry
 pub mod Calls
@@ -19,7 +19,7 @@ pub mod Solve
 -- statements about them: the frame of refusal 2, kilosteps, demand 3, the plain map, soundness
 pub mod MalformedFrames
 pub mod NearestThousand
-pub mod TaintRules
+pub mod MarkRules
 pub mod SinkRules
 pub mod NonInterference
 pub mod Witnesses

@@ -10,8 +10,8 @@ use Rattle.rules.specs.Numbers.{textLimit}
 use Rattle.rules.specs.Frames.{framesAfter, isMalformed, anyOf, earliestMalformed, countFits}
 use Rattle.rules.specs.Text.{Line, lineFeed, linesOf, frameOfLine, isNotHex, budgetOf, loadBudgetText}
 use Rattle.rules.specs.Answers.{refusal}
-use Rattle.rules.specs.Entry.{Snapshot, TaintedSnapshot}
-use Rattle.rules.specs.Calls.{Called, jobProgram, plainCall, plainWords, plainText, plainBudgetText, taintedCall, taintedWords, taintedText, taintedBudgetText}
+use Rattle.rules.specs.Entry.{Snapshot, GuardedSnapshot}
+use Rattle.rules.specs.Calls.{Called, jobProgram, plainCall, plainWords, plainText, plainBudgetText, guardedCall, guardedWords, guardedText, guardedBudgetText}
 use Rattle.rules.specs.Solve.{decimal, zeroFields, field, solve}
 
 -- Of frames numbered from n on, each malformed (true) or well formed (false)
@@ -93,11 +93,11 @@ pub record CallsCarryEarliest : Type 0 where
   pub ofBudgetText : (text : List ℕ) (s : Snapshot) → CarriesEarliest (numberedBudgetText text) s (plainBudgetText text s)
   pub ofBudgetTextCheck : (text : List ℕ) (s : Snapshot)
       → CarriesEarliest (numberedBudgetText text) s (plainCall (jobProgram (loadBudgetText text)) 0 s)
-  pub ofTaintedWords : (words : List ℕ) (budget : ℕ) (g : TaintedSnapshot) → CarriesEarliest (numberedWords words) g (taintedWords words budget g)
-  pub ofTaintedText : (text : List ℕ) (budget : ℕ) (g : TaintedSnapshot) → CarriesEarliest (numberedText text) g (taintedText text budget g)
-  pub ofTaintedBudgetText : (text : List ℕ) (g : TaintedSnapshot) → CarriesEarliest (numberedBudgetText text) g (taintedBudgetText text g)
-  pub ofTaintedBudgetTextCheck : (text : List ℕ) (g : TaintedSnapshot)
-      → CarriesEarliest (numberedBudgetText text) g (taintedCall (jobProgram (loadBudgetText text)) 0 g)
+  pub ofGuardedWords : (words : List ℕ) (budget : ℕ) (g : GuardedSnapshot) → CarriesEarliest (numberedWords words) g (guardedWords words budget g)
+  pub ofGuardedText : (text : List ℕ) (budget : ℕ) (g : GuardedSnapshot) → CarriesEarliest (numberedText text) g (guardedText text budget g)
+  pub ofGuardedBudgetText : (text : List ℕ) (g : GuardedSnapshot) → CarriesEarliest (numberedBudgetText text) g (guardedBudgetText text g)
+  pub ofGuardedBudgetTextCheck : (text : List ℕ) (g : GuardedSnapshot)
+      → CarriesEarliest (numberedBudgetText text) g (guardedCall (jobProgram (loadBudgetText text)) 0 g)
   -- `solve` prints 2, four zeros and the number
   pub solvePrints : (text : List ℕ) (n : ℕ) → Carried (numberedBudgetText text) n
       → solve text ≡ decimal 2 ++ (zeroFields ++ (field n ++ (lineFeed ∷ [])))

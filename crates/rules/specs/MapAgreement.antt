@@ -6,9 +6,9 @@ use Rattle.rules.specs.Cells.{Cells, get, count, Rising, cells}
 use Rattle.rules.specs.PlainMap.{PlainMap, plainMap}
 use Rattle.rules.specs.Step as Plain
 use Rattle.rules.specs.Step.{Environment, State, Next}
-use Rattle.rules.specs.Taint as Tainted
-use Rattle.rules.specs.Taint.{Taints, TaintedState, TaintedNext}
-use Rattle.rules.specs.Relations.{Both, BothTainted, BothRan}
+use Rattle.rules.specs.Guarded as Guarded
+use Rattle.rules.specs.Guarded.{MarkState, GuardedState, GuardedNext}
+use Rattle.rules.specs.Relations.{Both, BothGuarded, BothRan}
 
 -- The plain map of a list of cells, and the states over it
 
@@ -31,11 +31,11 @@ withMap s m =
 abbrev pub mapState : State (cells ℕ) → State (plainMap ℕ)
 mapState s = withMap s (mapOf (s .cells))
 
-abbrev pub mapTaints : Taints (cells ℕ) → Taints (plainMap ℕ)
-mapTaints t = record { registers = t .registers; cells = mapOf (t .cells) }
+abbrev pub mapMarks : MarkState (cells ℕ) → MarkState (plainMap ℕ)
+mapMarks t = record { registers = t .registers; cells = mapOf (t .cells) }
 
-abbrev pub mapTaintedState : TaintedState (cells ℕ) → TaintedState (plainMap ℕ)
-mapTaintedState q = record { plain = mapState (q .plain); taints = mapTaints (q .taints) }
+abbrev pub mapGuardedState : GuardedState (cells ℕ) → GuardedState (plainMap ℕ)
+mapGuardedState q = record { plain = mapState (q .plain); marks = mapMarks (q .marks) }
 
 -- Agreement
 
@@ -57,22 +57,22 @@ pub record SameNext (n : Next (cells ℕ)) (m : Next (plainMap ℕ)) : Type 0 wh
   pub state : SameState (n .state) (m .state)
   pub finish : n .finish ≡ m .finish
 
-pub record SameTaints (t : Taints (cells ℕ)) (u : Taints (plainMap ℕ)) : Type 0 where
+pub record SameMarks (t : MarkState (cells ℕ)) (u : MarkState (plainMap ℕ)) : Type 0 where
   pub registers : t .registers ≡ u .registers
   pub cells : SameMemory (t .cells) (u .cells)
 
-pub record SameTaintedState (q : TaintedState (cells ℕ)) (r : TaintedState (plainMap ℕ)) : Type 0 where
+pub record SameGuardedState (q : GuardedState (cells ℕ)) (r : GuardedState (plainMap ℕ)) : Type 0 where
   pub plain : SameState (q .plain) (r .plain)
-  pub taints : SameTaints (q .taints) (r .taints)
+  pub marks : SameMarks (q .marks) (r .marks)
 
-pub record SameTaintedNext (n : TaintedNext (cells ℕ)) (m : TaintedNext (plainMap ℕ)) : Type 0 where
+pub record SameGuardedNext (n : GuardedNext (cells ℕ)) (m : GuardedNext (plainMap ℕ)) : Type 0 where
   pub next : SameNext (n .next) (m .next)
-  pub taints : SameTaints (n .taints) (m .taints)
+  pub marks : SameMarks (n .marks) (m .marks)
 
--- a tainted state whose two lists of cells both rise
-pub record TaintedRising (q : TaintedState (cells ℕ)) : Type 0 where
+-- a guarded state whose two lists of cells both rise
+pub record GuardedRising (q : GuardedState (cells ℕ)) : Type 0 where
   pub plain : Rising (q .plain .cells)
-  pub taints : Rising (q .taints .cells)
+  pub marks : Rising (q .marks .cells)
 
 -- The theorem
 
@@ -80,7 +80,7 @@ pub record MapAgreement (e : Environment) : Type 0 where
   pub step : (s : State (cells ℕ)) → Rising (s .cells) → Both SameNext (Plain.step (cells ℕ) e s) (Plain.step (plainMap ℕ) e (mapState s))
   pub run : (budget : ℕ) (s : State (cells ℕ)) → Rising (s .cells)
       → BothRan SameState (Plain.run (cells ℕ) e budget s) (Plain.run (plainMap ℕ) e budget (mapState s))
-  pub taintedStep : (q : TaintedState (cells ℕ)) → TaintedRising q
-      → BothTainted SameTaintedNext (Tainted.taintedStep (cells ℕ) e q) (Tainted.taintedStep (plainMap ℕ) e (mapTaintedState q))
-  pub taintedRun : (budget : ℕ) (q : TaintedState (cells ℕ)) → TaintedRising q
-      → BothRan SameTaintedState (Tainted.taintedRun (cells ℕ) e budget q) (Tainted.taintedRun (plainMap ℕ) e budget (mapTaintedState q))
+  pub guardedStep : (q : GuardedState (cells ℕ)) → GuardedRising q
+      → BothGuarded SameGuardedNext (Guarded.guardedStep (cells ℕ) e q) (Guarded.guardedStep (plainMap ℕ) e (mapGuardedState q))
+  pub guardedRun : (budget : ℕ) (q : GuardedState (cells ℕ)) → GuardedRising q
+      → BothRan SameGuardedState (Guarded.guardedRun (cells ℕ) e budget q) (Guarded.guardedRun (plainMap ℕ) e budget (mapGuardedState q))

@@ -11,37 +11,37 @@ use Rattle.rules.specs.Numbers.{p}
 use Rattle.rules.specs.Results.{Result, pass}
 use Rattle.rules.specs.Cells.{cells, get, zipped}
 use Rattle.rules.specs.Step.{State}
-use Rattle.rules.specs.Taint.{registerTaint, slotTaint}
+use Rattle.rules.specs.Guarded.{registerMark, slotMark}
 use Rattle.rules.specs.Answers.{outcome, refusal}
-use Rattle.rules.specs.Entry.{Snapshot, TaintedSnapshot, usedAddresses, usedNumbers, usedTape, usedOutput, usedTaints, taintedRegisters, taintedCells, taintEntry, taintedEntry, environment, stateOf}
+use Rattle.rules.specs.Entry.{Snapshot, GuardedSnapshot, usedAddresses, usedNumbers, usedTape, usedOutput, usedMarks, markedRegisters, markedCells, marksEntry, guardedEntry, environment, stateOf}
 use Rattle.rules.specs.Calls.{Called, refused}
-use Rattle.rules.specs.TaintRules.{register, cell, Tainting}
+use Rattle.rules.specs.MarkRules.{register, cell, Marking}
 use Rattle.rules.specs.SinkRules.{ReachesUse, Comes}
 
 -- 'Marked': a register, or a used cell, whose mark is 1
-abbrev pub TaintedRegister : TaintedSnapshot → ℕ → Type 0
-TaintedRegister g r = getD (taintedRegisters g) r false ≡ true
+abbrev pub MarkedRegister : GuardedSnapshot → ℕ → Type 0
+MarkedRegister g r = getD (markedRegisters g) r false ≡ true
 
-abbrev pub TaintedCell : TaintedSnapshot → ℕ → Type 0
-TaintedCell g i = getD (taintedCells g) i false ≡ true
+abbrev pub MarkedCell : GuardedSnapshot → ℕ → Type 0
+MarkedCell g i = getD (markedCells g) i false ≡ true
 
 -- each marked number is below p
-pub record TaintedBelow (g : TaintedSnapshot) : Type 0 where
-  pub registers : (r : ℕ) → TaintedRegister g r → getD (g .plain .machine .registers) r 0 < p
-  pub cells : (i : ℕ) → TaintedCell g i → getD (usedNumbers (g .plain)) i 0 < p
+pub record MarkedBelow (g : GuardedSnapshot) : Type 0 where
+  pub registers : (r : ℕ) → MarkedRegister g r → getD (g .plain .machine .registers) r 0 < p
+  pub cells : (i : ℕ) → MarkedCell g i → getD (usedNumbers (g .plain)) i 0 < p
 
 -- nothing is marked
-pub record Untainted (g : TaintedSnapshot) : Type 0 where
-  pub registers : (r : ℕ) → TaintedRegister g r → ⊥
-  pub cells : (i : ℕ) → TaintedCell g i → ⊥
+pub record Unmarked (g : GuardedSnapshot) : Type 0 where
+  pub registers : (r : ℕ) → MarkedRegister g r → ⊥
+  pub cells : (i : ℕ) → MarkedCell g i → ⊥
 
--- two numbers at one place: equal where it is untainted, any two where it is tainted
+-- two numbers at one place: equal where it is unmarked, any two where it is marked
 abbrev pub EqualUnless : Bool → ℕ → ℕ → Type 0
 EqualUnless true v w = Unit {0}
 EqualUnless false v w = v ≡ w
 
--- 'Alike', with the numbers at each place related under the place's taint
-pub record Agree (R : Bool → ℕ → ℕ → Type 0) (g h : TaintedSnapshot) : Type 0 where
+-- 'Alike', with the numbers at each place related under the place's mark
+pub record Agree (R : Bool → ℕ → ℕ → Type 0) (g h : GuardedSnapshot) : Type 0 where
   pub pc : g .plain .machine .pc ≡ h .plain .machine .pc
   pub clk : g .plain .machine .clk ≡ h .plain .machine .clk
   pub psp : g .plain .machine .psp ≡ h .plain .machine .psp
@@ -52,77 +52,77 @@ pub record Agree (R : Bool → ℕ → ℕ → Type 0) (g h : TaintedSnapshot) :
   pub outputCount : g .plain .machine .«output_count» ≡ h .plain .machine .«output_count»
   pub addressLength : length (g .plain .addresses) ≡ length (h .plain .addresses)
   pub numberLength : length (g .plain .numbers) ≡ length (h .plain .numbers)
-  pub taintLength : length (g .taints) ≡ length (h .taints)
+  pub markLength : length (g .marks) ≡ length (h .marks)
   pub tapeLength : length (g .plain .tape) ≡ length (h .plain .tape)
   pub outputLength : length (g .plain .output) ≡ length (h .plain .output)
   -- each buffer as far as its count and its length go; nothing is said of what lies beyond
   pub addresses : usedAddresses (g .plain) ≡ usedAddresses (h .plain)
-  pub taints : usedTaints g ≡ usedTaints h
+  pub marks : usedMarks g ≡ usedMarks h
   pub tape : usedTape (g .plain) ≡ usedTape (h .plain)
   pub output : usedOutput (g .plain) ≡ usedOutput (h .plain)
-  pub numbers : (i : ℕ) → R (getD (taintedCells g) i false) (getD (usedNumbers (g .plain)) i 0) (getD (usedNumbers (h .plain)) i 0)
+  pub numbers : (i : ℕ) → R (getD (markedCells g) i false) (getD (usedNumbers (g .plain)) i 0) (getD (usedNumbers (h .plain)) i 0)
   -- the ten registers
-  pub registerTaints : g .registerTaints ≡ h .registerTaints
+  pub registerMarks : g .registerMarks ≡ h .registerMarks
   pub ten : (length (g .plain .machine .registers) ≡ 10) × (length (h .plain .machine .registers) ≡ 10)
-  pub registers : (r : ℕ) → R (getD (taintedRegisters g) r false) (getD (g .plain .machine .registers) r 0) (getD (h .plain .machine .registers) r 0)
+  pub registers : (r : ℕ) → R (getD (markedRegisters g) r false) (getD (g .plain .machine .registers) r 0) (getD (h .plain .machine .registers) r 0)
 
 -- 'Alike'
-abbrev pub LowEquivalent : TaintedSnapshot → TaintedSnapshot → Type 0
-LowEquivalent g h = Agree EqualUnless g h
+abbrev pub Alike : GuardedSnapshot → GuardedSnapshot → Type 0
+Alike g h = Agree EqualUnless g h
 
 -- the same answer with all that it carries, the same steps, and what is left alike
-pub record SameCalls (c d : Called TaintedSnapshot) : Type 0 where
+pub record SameCalls (c d : Called GuardedSnapshot) : Type 0 where
   pub answer : c .answer ≡ d .answer
   pub steps : c .steps ≡ d .steps
-  pub left : LowEquivalent (c .left) (d .left)
+  pub left : Alike (c .left) (d .left)
 
 -- the call meets 18; '18 after k steps'
-abbrev pub MeetsSink : Called TaintedSnapshot → Type 0
+abbrev pub MeetsSink : Called GuardedSnapshot → Type 0
 MeetsSink c = c .answer ≡ refusal 18 []
 
-abbrev pub SinkAfter : ℕ → Called TaintedSnapshot → Type 0
+abbrev pub SinkAfter : ℕ → Called GuardedSnapshot → Type 0
 SinkAfter k c = MeetsSink c × (c .steps ≡ k)
 
--- a call without its taints
-abbrev pub untainted : Called TaintedSnapshot → Called Snapshot
-untainted c = record { answer = c .answer; steps = c .steps; left = c .left .plain }
+-- a call without its marks
+abbrev pub unmarked : Called GuardedSnapshot → Called Snapshot
+unmarked c = record { answer = c .answer; steps = c .steps; left = c .left .plain }
 
 -- e3 after k steps
 abbrev pub pausedAfter : ℕ → Snapshot → Called Snapshot
 pausedAfter k s = record { answer = outcome 3 []; steps = k; left = s }
 
--- the taints that a snapshot starts with
-abbrev pub startTaints : TaintedSnapshot → Tainting
-startTaints g (register r) = registerTaint (taintedRegisters g) r
-startTaints g (cell a) = slotTaint (cells ℕ) (get (zipped (usedAddresses (g .plain)) (usedTaints g)) a)
+-- the marks that a snapshot starts with
+abbrev pub startMarks : GuardedSnapshot → Marking
+startMarks g (register r) = registerMark (markedRegisters g) r
+startMarks g (cell a) = slotMark (cells ℕ) (get (zipped (usedAddresses (g .plain)) (usedMarks g)) a)
 
 -- 'Reaches a listed use': the call passes entry, comes to a state after k steps, and the next step reaches a use
-pub data Reaches : Result (List Instruction) → TaintedSnapshot → ℕ → Type 0 where
-  reaches : {program : List Instruction} {g : TaintedSnapshot} {k : ℕ} {s : State (cells ℕ)} {t : Tainting}
-      → taintedEntry g ≡ true
-      → Comes (environment program (g .plain)) (stateOf (g .plain)) (startTaints g) k s t
+pub data Reaches : Result (List Instruction) → GuardedSnapshot → ℕ → Type 0 where
+  reaches : {program : List Instruction} {g : GuardedSnapshot} {k : ℕ} {s : State (cells ℕ)} {t : Marking}
+      → guardedEntry g ≡ true
+      → Comes (environment program (g .plain)) (stateOf (g .plain)) (startMarks g) k s t
       → ReachesUse (environment program (g .plain)) s t
       → Reaches (pass program) g k
 
--- Of a program as loaded, with a budget: the tainted call beside itself and beside the plain call
+-- Of a program as loaded, with a budget: the guarded call beside itself and beside the plain call
 pub record NonInterference
     (program : Result (List Instruction))
     (budget : ℕ)
-    (tainted : TaintedSnapshot → Called TaintedSnapshot)
+    (guarded : GuardedSnapshot → Called GuardedSnapshot)
     (plain : ℕ → Snapshot → Called Snapshot)
     : Type 0 where
-  -- two that start alike but for their tainted numbers, each below p, give the same answer and end alike
-  pub agrees : (g h : TaintedSnapshot) → LowEquivalent g h → TaintedBelow g → TaintedBelow h → SameCalls (tainted g) (tainted h)
+  -- two that start alike but for their marked numbers, each below p, give the same answer and end alike
+  pub agrees : (g h : GuardedSnapshot) → Alike g h → MarkedBelow g → MarkedBelow h → SameCalls (guarded g) (guarded h)
   -- one that does not meet 18 is the plain call
-  pub transparent : (g : TaintedSnapshot) → taintEntry g ≡ true → (MeetsSink (tainted g) → ⊥)
-      → untainted (tainted g) ≡ plain budget (g .plain)
-  -- one whose taints an entry refuses is refused 3 and leaves everything, unless the program is refused
-  pub unfit : (g : TaintedSnapshot) → taintEntry g ≡ false → {instructions : List Instruction} → program ≡ pass instructions
-      → tainted g ≡ refused BadState g
+  pub transparent : (g : GuardedSnapshot) → marksEntry g ≡ true → (MeetsSink (guarded g) → ⊥)
+      → unmarked (guarded g) ≡ plain budget (g .plain)
+  -- one whose marks an entry refuses is refused 3 and leaves everything, unless the program is refused
+  pub unfit : (g : GuardedSnapshot) → marksEntry g ≡ false → {instructions : List Instruction} → program ≡ pass instructions
+      → guarded g ≡ refused BadState g
   -- one that meets 18 after k steps, which is below the budget, leaves what the plain call with budget k leaves: that is e3 after k steps
-  pub stopsEarly : (g : TaintedSnapshot) (k : ℕ) → SinkAfter k (tainted g)
-      → (k < budget) × (plain k (g .plain) ≡ pausedAfter k (tainted g .left .plain))
+  pub stopsEarly : (g : GuardedSnapshot) (k : ℕ) → SinkAfter k (guarded g)
+      → (k < budget) × (plain k (g .plain) ≡ pausedAfter k (guarded g .left .plain))
   -- 18 after k steps exactly where the step after k steps reaches a listed use
-  pub exact : (g : TaintedSnapshot) (k : ℕ) → SinkAfter k (tainted g) ↔ ((k < budget) × Reaches program g k)
-  -- a start with no taints never meets 18
-  pub clean : (g : TaintedSnapshot) → Untainted g → MeetsSink (tainted g) → ⊥
+  pub exact : (g : GuardedSnapshot) (k : ℕ) → SinkAfter k (guarded g) ↔ ((k < budget) × Reaches program g k)
+  -- a start with no marks never meets 18
+  pub clean : (g : GuardedSnapshot) → Unmarked g → MeetsSink (guarded g) → ⊥

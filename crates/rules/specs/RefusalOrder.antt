@@ -13,7 +13,7 @@ use Rattle.rules.specs.Answers.{Meaning, refusal}
 use Rattle.rules.specs.Entry.{Snapshot}
 use Rattle.rules.specs.Calls.{Called, plainText, plainBudgetText}
 use Rattle.rules.specs.Encoding.{frame, imm, absent6, offset7, bytes}
-use Rattle.rules.specs.Rows.{Start, start, withTaintedR, withClk, fourCells, full, snapshot, Hold, plain, tainted, e3, refused, Pair, pair, pairOf, inStep, rowsOf, forEach}
+use Rattle.rules.specs.Rows.{Start, start, withMarkedR, withClk, fourCells, full, snapshot, Hold, plain, guarded, e3, refused, Pair, pair, pairOf, inStep, rowsOf, forEach}
 
 -- one step
 abbrev once : List ℕ → Start → Called Snapshot
@@ -41,9 +41,9 @@ zeroLines (suc k) n = replicate n 48 ++ (10 ∷ zeroLines k n)
 abbrev badState : Start
 badState = withClk 1000000000000 start
 
--- refused 3: a register taint beyond R9
-abbrev badTaint : Start
-badTaint = withTaintedR 10 0 start
+-- refused 3: a register mark beyond R9
+abbrev badMark : Start
+badMark = withMarkedR 10 0 start
 
 abbrev text : List ℕ → Called Snapshot
 text cs = plainText cs 1 (snapshot start)
@@ -60,9 +60,9 @@ entryOrder =
     pair 1 (once [] badState) 3 (once (endFrames 1) badState)
     -- 2 before 3
     ∷ pairOf (malformed 1) (once (0x1f ∷ []) badState) (refused 3) (once (endFrames 1) badState)
-    -- 1 before 3, and 2 before 3, of a tainted call
-    ∷ pair 1 (tainted 1 [] badTaint) 3 (tainted 1 (endFrames 1) badTaint)
-    ∷ pairOf (malformed 1) (tainted 1 (0x1f ∷ []) badTaint) (refused 3) (tainted 1 (endFrames 1) badTaint)
+    -- 1 before 3, and 2 before 3, of a guarded call
+    ∷ pair 1 (guarded 1 [] badMark) 3 (guarded 1 (endFrames 1) badMark)
+    ∷ pairOf (malformed 1) (guarded 1 (0x1f ∷ []) badMark) (refused 3) (guarded 1 (endFrames 1) badMark)
     -- 3 before a pause at budget 0
     ∷ pairOf (refused 3) (plain 0 (endFrames 1) badState) e3 (plain 0 (endFrames 1) start)
     ∷ []

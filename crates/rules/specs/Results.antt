@@ -16,17 +16,17 @@ unfoldable pub bind : {A B : Type 0} → Result A → (A → Result B) → Resul
 bind (refuse f) k = refuse f
 bind (pass a) k = k a
 
--- the same in a tainted step, which refuses at a sink too: `sink` is refusal 18
-pub data TaintedResult (A : Type 0) : Type 0 where
-  refuses : Refusal → TaintedResult A
-  sink : TaintedResult A
-  passes : A → TaintedResult A
+-- the same in a guarded step, which refuses at a sink too: `sink` is refusal 18
+pub data GuardedResult (A : Type 0) : Type 0 where
+  refuses : Refusal → GuardedResult A
+  sink : GuardedResult A
+  passes : A → GuardedResult A
 
-unfoldable pub after : {A B : Type 0} → Result A → (A → TaintedResult B) → TaintedResult B
+unfoldable pub after : {A B : Type 0} → Result A → (A → GuardedResult B) → GuardedResult B
 after (refuse f) k = refuses f
 after (pass a) k = k a
 
 -- refusal 18 where the test passes, else the result
-unfoldable pub guard : {A : Type 0} → Bool → TaintedResult A → TaintedResult A
+unfoldable pub guard : {A : Type 0} → Bool → GuardedResult A → GuardedResult A
 guard true r = sink
 guard false r = r

@@ -8,10 +8,10 @@ use Rattle.rules.specs.declared.Instruction.{Instruction}
 use Rattle.rules.specs.Numbers.{clockEnd}
 use Rattle.rules.specs.Cells.{cells}
 use Rattle.rules.specs.Step.{State}
-use Rattle.rules.specs.Taint.{TaintedState}
+use Rattle.rules.specs.Guarded.{GuardedState}
 use Rattle.rules.specs.Entry as Entry
-use Rattle.rules.specs.Entry.{Snapshot, TaintedSnapshot, plainEntry, taintedEntry, stateOf, taintedStateOf, snapshotAfter, taintedSnapshotAfter}
-use Rattle.rules.specs.Soundness.{Sound, TaintedSound}
+use Rattle.rules.specs.Entry.{Snapshot, GuardedSnapshot, plainEntry, guardedEntry, stateOf, guardedStateOf, snapshotAfter, guardedSnapshotAfter}
+use Rattle.rules.specs.Soundness.{Sound, GuardedSound}
 
 -- a state as the next call sees it: what the run wrote behind the output no longer counts as written
 abbrev pub resumed : State (cells ℕ) → State (cells ℕ)
@@ -26,8 +26,8 @@ resumed t =
       written = t .output;
     }
 
-abbrev pub taintedResumed : TaintedState (cells ℕ) → TaintedState (cells ℕ)
-taintedResumed q = record { plain = resumed (q .plain); taints = q .taints }
+abbrev pub guardedResumed : GuardedState (cells ℕ) → GuardedState (cells ℕ)
+guardedResumed q = record { plain = resumed (q .plain); marks = q .marks }
 
 pub record Resumable (program : List Instruction) (s : Snapshot) (t : State (cells ℕ)) : Type 0 where
   pub addresses : length (snapshotAfter s t .addresses) ≡ length (s .addresses)
@@ -39,15 +39,15 @@ pub record Resumable (program : List Instruction) (s : Snapshot) (t : State (cel
   -- it is refused 3 only for its clock
   pub entry : t .clk < clockEnd → plainEntry (snapshotAfter s t) ≡ true
 
-pub record TaintedResumable (program : List Instruction) (g : TaintedSnapshot) (q : TaintedState (cells ℕ)) : Type 0 where
+pub record GuardedResumable (program : List Instruction) (g : GuardedSnapshot) (q : GuardedState (cells ℕ)) : Type 0 where
   pub plain : Resumable program (g .plain) (q .plain)
-  pub taints : length (taintedSnapshotAfter g q .taints) ≡ length (g .taints)
-  pub state : taintedStateOf (taintedSnapshotAfter g q) ≡ taintedResumed q
-  pub entry : q .plain .clk < clockEnd → taintedEntry (taintedSnapshotAfter g q) ≡ true
+  pub marks : length (guardedSnapshotAfter g q .marks) ≡ length (g .marks)
+  pub state : guardedStateOf (guardedSnapshotAfter g q) ≡ guardedResumed q
+  pub entry : q .plain .clk < clockEnd → guardedEntry (guardedSnapshotAfter g q) ≡ true
 
 -- The theorem: it holds of every sound state over the buffers of a snapshot that passed entry, so of every end of a run from there
 
 pub record Resumption (program : List Instruction) : Type 0 where
   pub plain : (s : Snapshot) (t : State (cells ℕ)) → plainEntry s ≡ true → Sound (Entry.environment program s) t → Resumable program s t
-  pub tainted : (g : TaintedSnapshot) (q : TaintedState (cells ℕ)) → taintedEntry g ≡ true
-      → TaintedSound (Entry.environment program (g .plain)) q → TaintedResumable program g q
+  pub guarded : (g : GuardedSnapshot) (q : GuardedState (cells ℕ)) → guardedEntry g ≡ true
+      → GuardedSound (Entry.environment program (g .plain)) q → GuardedResumable program g q

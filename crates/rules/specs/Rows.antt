@@ -7,10 +7,10 @@ use Rattle.rules.specs.declared.OlaOpcode.{OlaOpcode}
 use Rattle.rules.specs.Numbers.{defaultPsp, bit}
 use Rattle.rules.specs.Memory.{Slot, absent, present}
 use Rattle.rules.specs.Cells as Cells
-use Rattle.rules.specs.Taint.{registerTaint}
+use Rattle.rules.specs.Guarded.{registerMark}
 use Rattle.rules.specs.Answers.{Meaning, outcome, refusal}
-use Rattle.rules.specs.Entry.{Snapshot, TaintedSnapshot, stateOf, taintedRegisters, taintedStateOf}
-use Rattle.rules.specs.Calls.{Called, plainWords, taintedWords}
+use Rattle.rules.specs.Entry.{Snapshot, GuardedSnapshot, stateOf, markedRegisters, guardedStateOf}
+use Rattle.rules.specs.Calls.{Called, plainWords, guardedWords}
 
 -- Where a call starts
 
@@ -18,7 +18,7 @@ use Rattle.rules.specs.Calls.{Called, plainWords, taintedWords}
 pub record PresentCell : Type 0 where
   pub address : ℕ
   pub number : ℕ
-  pub taint : ℕ
+  pub mark : ℕ
 
 -- how many cells, tape values and output values more fit
 pub record Free : Type 0 where
@@ -26,45 +26,45 @@ pub record Free : Type 0 where
   pub tape : ℕ
   pub output : ℕ
 
--- R0 to R9 and the word of their taints, the present cells, the tape, clk, and what is free
+-- R0 to R9 and the word of their marks, the present cells, the tape, clk, and what is free
 pub record Start : Type 0 where
   pub registers : List ℕ
-  pub taints : ℕ
+  pub marks : ℕ
   pub cells : List PresentCell
   pub tape : List ℕ
   pub clk : ℕ
   pub free : Free
 
 abbrev from : List ℕ → ℕ → List PresentCell → List ℕ → ℕ → Free → Start
-from rs ts cs vs n f = record { registers = rs; taints = ts; cells = cs; tape = vs; clk = n; free = f }
+from rs ts cs vs n f = record { registers = rs; marks = ts; cells = cs; tape = vs; clk = n; free = f }
 
 -- R0 is 7, so that a result of 0 shows; all else is 0 and empty
 abbrev pub start : Start
 start = from (7 ∷ replicate 9 0) 0 [] [] 0 (record { cells = 4; tape = 12; output = 4 })
 
--- register r holds n, untainted or tainted
+-- register r holds n, unmarked or marked
 abbrev pub withR : ℕ → ℕ → Start → Start
-withR r n s = from (set s.registers r n) s.taints s.cells s.tape s.clk s.free
+withR r n s = from (set s.registers r n) s.marks s.cells s.tape s.clk s.free
 
-abbrev pub withTaintedR : ℕ → ℕ → Start → Start
-withTaintedR r n s = from (set s.registers r n) (s.taints + 2 ^ r) s.cells s.tape s.clk s.free
+abbrev pub withMarkedR : ℕ → ℕ → Start → Start
+withMarkedR r n s = from (set s.registers r n) (s.marks + 2 ^ r) s.cells s.tape s.clk s.free
 
--- one more present cell, before those of s: its address and number; untainted or tainted
+-- one more present cell, before those of s: its address and number; unmarked or marked
 abbrev pub withCell : ℕ → ℕ → Start → Start
-withCell a n s = from s.registers s.taints (record { address = a; number = n; taint = 0 } ∷ s.cells) s.tape s.clk s.free
+withCell a n s = from s.registers s.marks (record { address = a; number = n; mark = 0 } ∷ s.cells) s.tape s.clk s.free
 
-abbrev pub withTaintedCell : ℕ → ℕ → Start → Start
-withTaintedCell a n s = from s.registers s.taints (record { address = a; number = n; taint = 1 } ∷ s.cells) s.tape s.clk s.free
+abbrev pub withMarkedCell : ℕ → ℕ → Start → Start
+withMarkedCell a n s = from s.registers s.marks (record { address = a; number = n; mark = 1 } ∷ s.cells) s.tape s.clk s.free
 
 abbrev pub withTape : List ℕ → Start → Start
-withTape vs s = from s.registers s.taints s.cells vs s.clk s.free
+withTape vs s = from s.registers s.marks s.cells vs s.clk s.free
 
 abbrev pub withClk : ℕ → Start → Start
-withClk n s = from s.registers s.taints s.cells s.tape n s.free
+withClk n s = from s.registers s.marks s.cells s.tape n s.free
 
 -- so many more cells, tape values and output values fit
 abbrev pub withFree : ℕ → ℕ → ℕ → Start → Start
-withFree c t o s = from s.registers s.taints s.cells s.tape s.clk (record { cells = c; tape = t; output = o })
+withFree c t o s = from s.registers s.marks s.cells s.tape s.clk (record { cells = c; tape = t; output = o })
 
 -- nothing more fits
 abbrev pub full : Start → Start
@@ -75,8 +75,8 @@ abbrev pub fourCells : Start → Start
 fourCells s = withCell 0 5 (withCell 1 6 (withCell 2 7 (withCell 3 8 s)))
 
 -- what is handed in
-abbrev pub taintedSnapshot : Start → TaintedSnapshot
-taintedSnapshot s =
+abbrev pub guardedSnapshot : Start → GuardedSnapshot
+guardedSnapshot s =
     record {
       plain = record {
         machine = record {
@@ -94,12 +94,12 @@ taintedSnapshot s =
         tape = s .tape ++ replicate (s .free .tape) 0;
         output = replicate (s .free .output) 0;
       };
-      taints = map (λ k. k .taint) (s .cells) ++ replicate (s .free .cells) 0;
-      registerTaints = s .taints;
+      marks = map (λ k. k .mark) (s .cells) ++ replicate (s .free .cells) 0;
+      registerMarks = s .marks;
     }
 
 abbrev pub snapshot : Start → Snapshot
-snapshot s = taintedSnapshot s .plain
+snapshot s = guardedSnapshot s .plain
 
 -- A row
 
@@ -124,12 +124,12 @@ row c look answer steps about =
 abbrev pub Hold : List Row → Type 0
 Hold rows = map (λ r. r .rules) rows ≡ map (λ r. r .paper) rows
 
--- a plain or a tainted call of bare words: its budget, its words, its start
+-- a plain or a guarded call of bare words: its budget, its words, its start
 abbrev pub plain : ℕ → List ℕ → Start → Called Snapshot
 plain budget words s = plainWords words budget (snapshot s)
 
-abbrev pub tainted : ℕ → List ℕ → Start → Called TaintedSnapshot
-tainted budget words s = taintedWords words budget (taintedSnapshot s)
+abbrev pub guarded : ℕ → List ℕ → Start → Called GuardedSnapshot
+guarded budget words s = guardedWords words budget (guardedSnapshot s)
 
 -- outcomes that carry nothing, and refusals but for 2
 abbrev pub e0 : Meaning
@@ -162,12 +162,12 @@ cellCount s = s .machine .«cell_count» ∷ []
 abbrev pub clkOf : Snapshot → List ℕ
 clkOf s = s .machine .clk ∷ []
 
--- a register's number and its taint, a cell's likewise
-abbrev pub taintedRegisterAt : ℕ → TaintedSnapshot → List ℕ
-taintedRegisterAt r g = registerAt r (g .plain) ++ (bit (registerTaint (taintedRegisters g) r) ∷ [])
+-- a register's number and its mark, a cell's likewise
+abbrev pub markedRegisterAt : ℕ → GuardedSnapshot → List ℕ
+markedRegisterAt r g = registerAt r (g .plain) ++ (bit (registerMark (markedRegisters g) r) ∷ [])
 
-abbrev pub taintedCellAt : ℕ → TaintedSnapshot → List ℕ
-taintedCellAt a g = cellAt a (g .plain) ++ slotNumber (Cells.get (taintedStateOf g .taints .cells) a)
+abbrev pub markedCellAt : ℕ → GuardedSnapshot → List ℕ
+markedCellAt a g = cellAt a (g .plain) ++ slotNumber (Cells.get (guardedStateOf g .marks .cells) a)
 
 -- Two refusals that meet
 
@@ -189,13 +189,13 @@ inStep s m words n words′ = pair m (plain 1 words s) n (plain 1 words′ s)
 abbrev pub fromTwo : List ℕ → ℕ → Start → ℕ → Start → Pair
 fromTwo words m s n s′ = pair m (plain 1 words s) n (plain 1 words s′)
 
--- one tainted step: two programs from one start
-abbrev pub inTaintedStep : Start → ℕ → List ℕ → ℕ → List ℕ → Pair
-inTaintedStep s m words n words′ = pair m (tainted 1 words s) n (tainted 1 words′ s)
+-- one guarded step: two programs from one start
+abbrev pub inGuardedStep : Start → ℕ → List ℕ → ℕ → List ℕ → Pair
+inGuardedStep s m words n words′ = pair m (guarded 1 words s) n (guarded 1 words′ s)
 
--- refusal 18 before another: a tainted step, and the plain step of the same
+-- refusal 18 before another: a guarded step, and the plain step of the same
 abbrev pub sinkBefore : ℕ → List ℕ → Start → Pair
-sinkBefore n words s = pair 18 (tainted 1 words s) n (plain 1 words s)
+sinkBefore n words s = pair 18 (guarded 1 words s) n (plain 1 words s)
 
 abbrev pub rowsOf : List Pair → List Row
 rowsOf [] = []

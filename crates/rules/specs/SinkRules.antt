@@ -12,7 +12,7 @@ use Rattle.rules.specs.Cells.{cells}
 use Rattle.rules.specs.Opcodes.{classOf}
 use Rattle.rules.specs.Operands.{fetch, valueOf, Operands, operands}
 use Rattle.rules.specs.Step.{Environment, State, goesOn, r9, readBelow, readSpan, step}
-use Rattle.rules.specs.TaintRules.{Place, register, cell, Tainting, OperandTainted, TaintedAfter}
+use Rattle.rules.specs.MarkRules.{Place, register, cell, Marking, OperandMarked, MarkedAfter}
 
 -- the opcodes that the list names together
 pub data Addressing : OlaOpcode → Type 0 where
@@ -40,12 +40,12 @@ pub data UsesTape : OlaOpcode → Type 0 where
   tstore : UsesTape O.Tstore
   sccall : UsesTape O.Sccall
 
-module _ (t : Tainting) (i : Instruction) where
+module _ (t : Marking) (i : Instruction) where
   abbrev Op0 : Type 0
-  Op0 = OperandTainted t (i .op0) true
+  Op0 = OperandMarked t (i .op0) true
 
   abbrev Op1 : Type 0
-  Op1 = OperandTainted t (i .op1) true
+  Op1 = OperandMarked t (i .op1) true
 
   -- the uses that come right after the operands
   pub data OperandUse : OlaOpcode → Type 0 where
@@ -60,7 +60,7 @@ module _ (t : Tainting) (i : Instruction) where
     -- all operands that TLOAD, TSTORE and SCCALL read
     tape-op0 : {c : OlaOpcode} → UsesTape c → Op0 → OperandUse c
     tape-op1 : {c : OlaOpcode} → UsesTape c → Op1 → OperandUse c
-    tload-dst : OperandTainted t (i .dst) true → OperandUse O.Tload
+    tload-dst : OperandMarked t (i .dst) true → OperandUse O.Tload
 
   -- the uses that come later: CJMP's op1 after the test and its evaluation; cells and RET's pc after all reads are found
   pub data ReadUse (e : Environment) (s : State (cells ℕ)) (o : Operands) : OlaOpcode → Type 0 where
@@ -78,23 +78,23 @@ pub record Fetched (e : Environment) (s : State (cells ℕ)) (i : Instruction) (
   pub read : operands (e .psp) (s .registers) (classOf (i .opcode)) i ≡ pass o
 
 -- the step from a state reaches a listed use: nothing before the use refuses it
-pub data ReachesUse (e : Environment) (s : State (cells ℕ)) (t : Tainting) : Type 0 where
+pub data ReachesUse (e : Environment) (s : State (cells ℕ)) (t : Marking) : Type 0 where
   operand : {i : Instruction} {o : Operands} → Fetched e s i o → OperandUse t i (i .opcode) → ReachesUse e s t
   reading : {i : Instruction} {o : Operands} → Fetched e s i o → (OperandUse t i (i .opcode) → ⊥)
       → ReadUse t i e s o (i .opcode) → ReachesUse e s t
 
--- an accepted step that lets the run go on: the plain step, at no listed use, with the taints that the rules give
-pub record Accepted (e : Environment) (s : State (cells ℕ)) (t : Tainting) (s′ : State (cells ℕ)) (t′ : Tainting) : Type 0 where
+-- an accepted step that lets the run go on: the plain step, at no listed use, with the marks that the rules give
+pub record Accepted (e : Environment) (s : State (cells ℕ)) (t : Marking) (s′ : State (cells ℕ)) (t′ : Marking) : Type 0 where
   pub instruction : Instruction
   pub operands : Operands
   pub fetched : Fetched e s instruction operands
   pub unused : ReachesUse e s t → ⊥
   pub next : step (cells ℕ) e s ≡ pass (record { state = s′; finish = goesOn })
   pub clock : s′ .clk < clockEnd
-  pub taints : (x : Place) → TaintedAfter t instruction s operands (instruction .opcode) x (t′ x)
+  pub marks : (x : Place) → MarkedAfter t instruction s operands (instruction .opcode) x (t′ x)
 
--- the tainted run comes to a state after k steps
-pub data Comes (e : Environment) : State (cells ℕ) → Tainting → ℕ → State (cells ℕ) → Tainting → Type 0 where
-  start : {s : State (cells ℕ)} {t : Tainting} → Comes e s t 0 s t
-  onward : {s s′ s″ : State (cells ℕ)} {t t′ t″ : Tainting} {k : ℕ}
+-- the guarded run comes to a state after k steps
+pub data Comes (e : Environment) : State (cells ℕ) → Marking → ℕ → State (cells ℕ) → Marking → Type 0 where
+  start : {s : State (cells ℕ)} {t : Marking} → Comes e s t 0 s t
+  onward : {s s′ s″ : State (cells ℕ)} {t t′ t″ : Marking} {k : ℕ}
       → Accepted e s t s′ t′ → Comes e s′ t′ k s″ t″ → Comes e s t (suc k) s″ t″

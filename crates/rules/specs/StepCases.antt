@@ -1,4 +1,4 @@
--- What each opcode gives, how far it moves pc, what it taints, and what `solve` prints of refusals. Document 01, 'The step', the end of
+-- What each opcode gives, how far it moves pc, what it marks, and what `solve` prints of refusals. Document 01, 'The step', the end of
 -- 'Frames', 'Marks' and the end of 'Cases'. The theorems stand in proofs/AllCases.antt.
 use Prim.Native.Nat.{ℕ}
 use mathlib.Core.Path.{_≡_}
@@ -8,11 +8,11 @@ use Rattle.rules.specs.declared.OlaOpcode.the-variants as O
 use Rattle.rules.specs.declared.OlaOperand.{OlaOperand}
 use Rattle.rules.specs.declared.OlaOperand.the-variants.{Absent, Register, RegisterWithOffset, RegisterWithFactor, Psp, Pc}
 use Rattle.rules.specs.Answers.{outcome}
-use Rattle.rules.specs.Entry.{Snapshot, TaintedSnapshot, usedTape, usedOutput}
+use Rattle.rules.specs.Entry.{Snapshot, GuardedSnapshot, usedTape, usedOutput}
 use Rattle.rules.specs.Calls.{plainBudgetText}
 use Rattle.rules.specs.Solve.{solve, printed}
 use Rattle.rules.specs.Encoding.{frame, imm, bytes}
-use Rattle.rules.specs.Rows.{Start, start, withR, withTaintedR, withCell, withTaintedCell, withTape, withClk, fourCells, snapshot, Row, row, Hold, plain, tainted, e0, e3, registerAt, cellAt, clkOf, taintedRegisterAt, taintedCellAt}
+use Rattle.rules.specs.Rows.{Start, start, withR, withMarkedR, withCell, withMarkedCell, withTape, withClk, fourCells, snapshot, Row, row, Hold, plain, guarded, e0, e3, registerAt, cellAt, clkOf, markedRegisterAt, markedCellAt}
 use Rattle.rules.specs.RefusalOrder.{endLines}
 
 abbrev r0 : OlaOperand
@@ -87,58 +87,58 @@ lengths =
 abbrev pub ResultsHold : Type 0
 ResultsHold = Hold results × Hold lengths
 
--- Taints
+-- Marks
 
-abbrev leaves : List ℕ → Start → (TaintedSnapshot → List ℕ) → List ℕ → Row
-leaves words s look about = row (tainted 1 words s) look e3 1 about
+abbrev leaves : List ℕ → Start → (GuardedSnapshot → List ℕ) → List ℕ → Row
+leaves words s look about = row (guarded 1 words s) look e3 1 about
 
--- R0 is a tainted 7, or R1 a tainted 6
-abbrev tainted0 : Start
-tainted0 = withTaintedR 0 7 start
+-- R0 is a guarded 7, or R1 a guarded 6
+abbrev marked0 : Start
+marked0 = withMarkedR 0 7 start
 
-abbrev tainted1 : Start
-tainted1 = withTaintedR 1 6 start
+abbrev marked1 : Start
+marked1 = withMarkedR 1 6 start
 
--- a register's or a cell's number, and then its taint
-unfoldable pub taintResults : List Row
-taintResults =
+-- a register's or a cell's number, and then its mark
+unfoldable pub markResults : List Row
+markResults =
     -- where an operand is: ADD, MUL, EQ, NEQ by op0 and by op1; NOT and MOV by op1
-    leaves (frame O.Add r1 (imm 1) r0) tainted1 (taintedRegisterAt 0) (7 ∷ 1 ∷ [])
-    ∷ leaves (frame O.Add (imm 1) r1 r0) tainted1 (taintedRegisterAt 0) (7 ∷ 1 ∷ [])
-    ∷ leaves (frame O.Add (imm 1) (imm 1) r0) tainted0 (taintedRegisterAt 0) (2 ∷ 0 ∷ [])
-    ∷ leaves (frame O.Mul r1 (imm 2) r0) tainted1 (taintedRegisterAt 0) (12 ∷ 1 ∷ [])
-    ∷ leaves (frame O.Mul (imm 2) r1 r0) tainted1 (taintedRegisterAt 0) (12 ∷ 1 ∷ [])
-    ∷ leaves (frame O.Eq (imm 2) r1 r0) tainted1 (taintedRegisterAt 0) (0 ∷ 1 ∷ [])
-    ∷ leaves (frame O.Eq (imm 2) (imm 2) r0) tainted0 (taintedRegisterAt 0) (1 ∷ 0 ∷ [])
-    ∷ leaves (frame O.Neq r1 (imm 2) r0) tainted1 (taintedRegisterAt 0) (1 ∷ 1 ∷ [])
-    ∷ leaves (frame O.Not Absent r1 r0) tainted1 (taintedRegisterAt 0) (0xFFFFFFFEFFFFFFFA ∷ 1 ∷ [])
-    ∷ leaves (frame O.Not Absent (imm 0) r0) tainted0 (taintedRegisterAt 0) (0xFFFFFFFF00000000 ∷ 0 ∷ [])
-    ∷ leaves (frame O.Mov Absent r1 r0) tainted1 (taintedRegisterAt 0) (6 ∷ 1 ∷ [])
-    ∷ leaves (frame O.Mov Absent (RegisterWithOffset 1 1) r0) tainted1 (taintedRegisterAt 0) (7 ∷ 1 ∷ [])
-    ∷ leaves (frame O.Mov Absent (RegisterWithFactor 1 2) r0) tainted1 (taintedRegisterAt 0) (12 ∷ 1 ∷ [])
-    -- immediates and PSP are unmarked, and so is what AND gives; R1 keeps its taint
-    ∷ leaves (frame O.Mov Absent (imm 5) r0) tainted0 (taintedRegisterAt 0) (5 ∷ 0 ∷ [])
-    ∷ leaves (frame O.Mov Absent Psp r0) tainted0 (taintedRegisterAt 0) (0xFFFFFFFE00000002 ∷ 0 ∷ [])
-    ∷ leaves (frame O.And (imm 5) (imm 5) r0) tainted0 (taintedRegisterAt 0) (5 ∷ 0 ∷ [])
-    ∷ leaves (frame O.Mov Absent (imm 5) r0) tainted1 (taintedRegisterAt 1) (6 ∷ 1 ∷ [])
+    leaves (frame O.Add r1 (imm 1) r0) marked1 (markedRegisterAt 0) (7 ∷ 1 ∷ [])
+    ∷ leaves (frame O.Add (imm 1) r1 r0) marked1 (markedRegisterAt 0) (7 ∷ 1 ∷ [])
+    ∷ leaves (frame O.Add (imm 1) (imm 1) r0) marked0 (markedRegisterAt 0) (2 ∷ 0 ∷ [])
+    ∷ leaves (frame O.Mul r1 (imm 2) r0) marked1 (markedRegisterAt 0) (12 ∷ 1 ∷ [])
+    ∷ leaves (frame O.Mul (imm 2) r1 r0) marked1 (markedRegisterAt 0) (12 ∷ 1 ∷ [])
+    ∷ leaves (frame O.Eq (imm 2) r1 r0) marked1 (markedRegisterAt 0) (0 ∷ 1 ∷ [])
+    ∷ leaves (frame O.Eq (imm 2) (imm 2) r0) marked0 (markedRegisterAt 0) (1 ∷ 0 ∷ [])
+    ∷ leaves (frame O.Neq r1 (imm 2) r0) marked1 (markedRegisterAt 0) (1 ∷ 1 ∷ [])
+    ∷ leaves (frame O.Not Absent r1 r0) marked1 (markedRegisterAt 0) (0xFFFFFFFEFFFFFFFA ∷ 1 ∷ [])
+    ∷ leaves (frame O.Not Absent (imm 0) r0) marked0 (markedRegisterAt 0) (0xFFFFFFFF00000000 ∷ 0 ∷ [])
+    ∷ leaves (frame O.Mov Absent r1 r0) marked1 (markedRegisterAt 0) (6 ∷ 1 ∷ [])
+    ∷ leaves (frame O.Mov Absent (RegisterWithOffset 1 1) r0) marked1 (markedRegisterAt 0) (7 ∷ 1 ∷ [])
+    ∷ leaves (frame O.Mov Absent (RegisterWithFactor 1 2) r0) marked1 (markedRegisterAt 0) (12 ∷ 1 ∷ [])
+    -- immediates and PSP are unmarked, and so is what AND gives; R1 keeps its mark
+    ∷ leaves (frame O.Mov Absent (imm 5) r0) marked0 (markedRegisterAt 0) (5 ∷ 0 ∷ [])
+    ∷ leaves (frame O.Mov Absent Psp r0) marked0 (markedRegisterAt 0) (0xFFFFFFFE00000002 ∷ 0 ∷ [])
+    ∷ leaves (frame O.And (imm 5) (imm 5) r0) marked0 (markedRegisterAt 0) (5 ∷ 0 ∷ [])
+    ∷ leaves (frame O.Mov Absent (imm 5) r0) marked1 (markedRegisterAt 1) (6 ∷ 1 ∷ [])
     -- MSTORE and MLOAD pass the mark on
-    ∷ leaves (frame O.Mstore (imm 1) (imm 2) r1) (withCell 2 5 tainted1) (taintedCellAt 3) (6 ∷ 1 ∷ [])
-    ∷ leaves (frame O.Mstore (imm 0) (imm 0) r0) (withTaintedCell 0 5 start) (taintedCellAt 0) (7 ∷ 0 ∷ [])
-    ∷ leaves (frame O.Mload (imm 0) (imm 0) r0) (withTaintedCell 0 5 start) (taintedRegisterAt 0) (5 ∷ 1 ∷ [])
-    ∷ leaves (frame O.Mload (imm 0) (imm 0) r0) (withCell 0 5 tainted0) (taintedRegisterAt 0) (5 ∷ 0 ∷ [])
+    ∷ leaves (frame O.Mstore (imm 1) (imm 2) r1) (withCell 2 5 marked1) (markedCellAt 3) (6 ∷ 1 ∷ [])
+    ∷ leaves (frame O.Mstore (imm 0) (imm 0) r0) (withMarkedCell 0 5 start) (markedCellAt 0) (7 ∷ 0 ∷ [])
+    ∷ leaves (frame O.Mload (imm 0) (imm 0) r0) (withMarkedCell 0 5 start) (markedRegisterAt 0) (5 ∷ 1 ∷ [])
+    ∷ leaves (frame O.Mload (imm 0) (imm 0) r0) (withCell 0 5 marked0) (markedRegisterAt 0) (5 ∷ 0 ∷ [])
     -- RET's R9
-    ∷ leaves (frame O.Ret Absent Absent Absent) (withR 9 2 (withTaintedCell 0 5 (withCell 1 9 start))) (taintedRegisterAt 9) (5 ∷ 1 ∷ [])
-    ∷ leaves (frame O.Ret Absent Absent Absent) (withR 9 2 (withCell 0 5 (withCell 1 9 start))) (taintedRegisterAt 9) (5 ∷ 0 ∷ [])
+    ∷ leaves (frame O.Ret Absent Absent Absent) (withR 9 2 (withMarkedCell 0 5 (withCell 1 9 start))) (markedRegisterAt 9) (5 ∷ 1 ∷ [])
+    ∷ leaves (frame O.Ret Absent Absent Absent) (withR 9 2 (withCell 0 5 (withCell 1 9 start))) (markedRegisterAt 9) (5 ∷ 0 ∷ [])
     -- tape values and return pcs are unmarked
-    ∷ leaves (frame O.Tload (imm 1) (imm 2) (imm 0)) (withTape (8 ∷ 9 ∷ []) (withTaintedCell 0 5 start)) (taintedCellAt 0) (8 ∷ 0 ∷ [])
-    ∷ leaves (frame O.Tload (imm 1) (imm 2) (imm 0)) (withTape (8 ∷ 9 ∷ []) (withTaintedCell 1 5 start)) (taintedCellAt 1) (9 ∷ 0 ∷ [])
-    ∷ leaves (frame O.Call Absent (imm 0) Absent) (withR 9 1 (withTaintedCell 0 5 start)) (taintedCellAt 0) (2 ∷ 0 ∷ [])
-    -- a cell that is stored before another: its taint moves with it
-    ∷ leaves (frame O.Mstore (imm 0) (imm 0) r0) (withTaintedCell 1 5 start) (taintedCellAt 1) (5 ∷ 1 ∷ [])
+    ∷ leaves (frame O.Tload (imm 1) (imm 2) (imm 0)) (withTape (8 ∷ 9 ∷ []) (withMarkedCell 0 5 start)) (markedCellAt 0) (8 ∷ 0 ∷ [])
+    ∷ leaves (frame O.Tload (imm 1) (imm 2) (imm 0)) (withTape (8 ∷ 9 ∷ []) (withMarkedCell 1 5 start)) (markedCellAt 1) (9 ∷ 0 ∷ [])
+    ∷ leaves (frame O.Call Absent (imm 0) Absent) (withR 9 1 (withMarkedCell 0 5 start)) (markedCellAt 0) (2 ∷ 0 ∷ [])
+    -- a cell that is stored before another: its mark moves with it
+    ∷ leaves (frame O.Mstore (imm 0) (imm 0) r0) (withMarkedCell 1 5 start) (markedCellAt 1) (5 ∷ 1 ∷ [])
     ∷ []
 
-abbrev pub TaintResultsHold : Type 0
-TaintResultsHold = Hold taintResults
+abbrev pub MarkResultsHold : Type 0
+MarkResultsHold = Hold markResults
 
 -- `solve` of refusals: the number in decimal; number 2's frame; zeros at entry
 

@@ -7,26 +7,26 @@ use Rattle.rules.specs.declared.OlaOpcode.the-variants as O
 use Rattle.rules.specs.declared.OlaOperand.the-variants.{Absent, Immediate, Register}
 use Rattle.rules.specs.Numbers.{defaultPsp}
 use Rattle.rules.specs.Answers.{Meaning, outcome, refusal}
-use Rattle.rules.specs.Entry.{TaintedSnapshot}
-use Rattle.rules.specs.Calls.{taintedWords}
+use Rattle.rules.specs.Entry.{GuardedSnapshot}
+use Rattle.rules.specs.Calls.{guardedWords}
 use Rattle.rules.specs.Encoding.{frame}
-use Rattle.rules.specs.Rows.{start, withR, withTaintedR, withCell, taintedSnapshot, taintedRegisterAt, taintedCellAt}
-use Rattle.rules.specs.NonInterference.{TaintedBelow, LowEquivalent, SameCalls}
+use Rattle.rules.specs.Rows.{start, withR, withMarkedR, withCell, guardedSnapshot, markedRegisterAt, markedCellAt}
+use Rattle.rules.specs.NonInterference.{MarkedBelow, Alike, SameCalls}
 
--- two starts of one program that differ and are alike, each tainted number below p; the answers and steps of their calls, which are the same
-pub record Witness (words : List ℕ) (budget : ℕ) (g h : TaintedSnapshot) (answer : Meaning) (steps : ℕ) : Type 0 where
+-- two starts of one program that differ and are alike, each marked number below p; the answers and steps of their calls, which are the same
+pub record Witness (words : List ℕ) (budget : ℕ) (g h : GuardedSnapshot) (answer : Meaning) (steps : ℕ) : Type 0 where
   pub differ : g ≡ h → ⊥
-  pub alike : LowEquivalent g h
-  pub below : TaintedBelow g × TaintedBelow h
-  pub same : SameCalls (taintedWords words budget g) (taintedWords words budget h)
-  pub answers : taintedWords words budget g .answer ≡ answer
-  pub stepped : taintedWords words budget g .steps ≡ steps
+  pub alike : Alike g h
+  pub below : MarkedBelow g × MarkedBelow h
+  pub same : SameCalls (guardedWords words budget g) (guardedWords words budget h)
+  pub answers : guardedWords words budget g .answer ≡ answer
+  pub stepped : guardedWords words budget g .steps ≡ steps
 
--- R1 is tainted and holds n; R9 is 5, and cell 4 holds 5, the pc of END below
-unfoldable pub secret : ℕ → TaintedSnapshot
-secret n = taintedSnapshot (withR 9 5 (withCell 4 5 (withTaintedR 1 n start)))
+-- R1 is marked and holds n; R9 is 5, and cell 4 holds 5, the pc of END below
+unfoldable pub secret : ℕ → GuardedSnapshot
+secret n = guardedSnapshot (withR 9 5 (withCell 4 5 (withMarkedR 1 n start)))
 
--- the taint goes from R1 through MSTORE to cell 3, through MLOAD to R2, and through RET to R9; then END
+-- the mark goes from R1 through MSTORE to cell 3, through MLOAD to R2, and through RET to R9; then END
 unfoldable pub carries : List ℕ
 carries =
     frame O.Mstore (Immediate 0) (Immediate 3) (Register 1)
@@ -38,17 +38,17 @@ carries =
 unfoldable pub leaks : List ℕ
 leaks = frame O.Eq (Register 1) (Register 1) (Register 0) ++ frame O.Cjmp (Register 0) (Immediate 0) Absent
 
--- after `carries`: R2, R9 and cell 3, each with its taint
-abbrev pub carried : TaintedSnapshot → List ℕ
-carried g = taintedRegisterAt 2 g ++ (taintedRegisterAt 9 g ++ taintedCellAt 3 g)
+-- after `carries`: R2, R9 and cell 3, each with its mark
+abbrev pub carried : GuardedSnapshot → List ℕ
+carried g = markedRegisterAt 2 g ++ (markedRegisterAt 9 g ++ markedCellAt 3 g)
 
 pub record Carried : Type 0 where
   pub ends : Witness carries 10 (secret 7) (secret 8) (outcome 0 []) 4
-  pub seven : carried (taintedWords carries 10 (secret 7) .left) ≡ 7 ∷ 1 ∷ 7 ∷ 1 ∷ 7 ∷ 1 ∷ []
-  pub eight : carried (taintedWords carries 10 (secret 8) .left) ≡ 8 ∷ 1 ∷ 8 ∷ 1 ∷ 8 ∷ 1 ∷ []
+  pub seven : carried (guardedWords carries 10 (secret 7) .left) ≡ 7 ∷ 1 ∷ 7 ∷ 1 ∷ 7 ∷ 1 ∷ []
+  pub eight : carried (guardedWords carries 10 (secret 8) .left) ≡ 8 ∷ 1 ∷ 8 ∷ 1 ∷ 8 ∷ 1 ∷ []
 
 -- nothing is used but R1, and n stands everywhere beyond the counts
-unfoldable pub beyond : ℕ → TaintedSnapshot
+unfoldable pub beyond : ℕ → GuardedSnapshot
 beyond n =
     record {
       plain = record {
@@ -67,8 +67,8 @@ beyond n =
         tape = n ∷ [];
         output = n ∷ [];
       };
-      taints = n ∷ n ∷ [];
-      registerTaints = 2;
+      marks = n ∷ n ∷ [];
+      registerMarks = 2;
     }
 
 -- R1 to cell 6, which takes one place of the cells' buffers
@@ -78,8 +78,8 @@ stores = frame O.Mstore (Immediate 0) (Immediate 6) (Register 1)
 pub record Beyond : Type 0 where
   pub pauses : Witness stores 1 (beyond 3) (beyond 4) (outcome 3 []) 1
   -- what stood beyond the counts still stands there
-  pub addresses : taintedWords stores 1 (beyond 3) .left .plain .addresses ≡ 6 ∷ 3 ∷ []
-  pub taints : taintedWords stores 1 (beyond 3) .left .taints ≡ 1 ∷ 3 ∷ []
+  pub addresses : guardedWords stores 1 (beyond 3) .left .plain .addresses ≡ 6 ∷ 3 ∷ []
+  pub marks : guardedWords stores 1 (beyond 3) .left .marks ≡ 1 ∷ 3 ∷ []
 
 pub record Witnesses : Type 0 where
   pub carried : Carried

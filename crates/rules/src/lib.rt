@@ -82,15 +82,15 @@ pub enum Refusal {
     ClockEnd,
 }
 
-// A run's outcome, e0 to e3, or its refusal. A calling outcome carries the callee's address. `TaintedSink` is refusal 18, which only a
-// tainted run gives.
+// A run's outcome, e0 to e3, or its refusal. A calling outcome carries the callee's address. `MarkedSink` is refusal 18, which only a
+// guarded run gives.
 pub enum Answer {
     Ended,
     Calling(u64, u64, u64, u64),
     DelegateCalling(u64, u64, u64, u64),
     Paused,
     Refused(Refusal),
-    TaintedSink,
+    MarkedSink,
 }
 
 // The state that is no buffer, and how much of each buffer is used.

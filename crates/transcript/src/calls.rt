@@ -10,12 +10,12 @@ use crate::text::TEXT_SIZE;
 use crate::text::first_bytes;
 use machine::Answered;
 use machine::Stepped;
-use machine::TaintedMachine;
-use machine::TaintedStepped;
+use machine::GuardedMachine;
+use machine::GuardedStepped;
 use rules::Machine;
-use tainted::Called;
+use guarded::Called;
 
-// The library's functions, each plain and tainted: those that run a program, and the one that steps a record where it is kept.
+// The library's functions, each plain and guarded: those that run a program, and the one that steps a record where it is kept.
 pub(crate) enum Entry {
     Words,
     Step,
@@ -26,7 +26,7 @@ pub(crate) enum Entry {
 // Calls from the state of some fields, and puts what the call leaves into others.
 pub(crate) fn call(
     entry: Entry,
-    is_tainted: bool,
+    is_marked: bool,
     budget: u64,
     text: &[u8; TEXT_SIZE],
     fields: &[u64; SIZE],
@@ -35,39 +35,39 @@ pub(crate) fn call(
     let words = words_of(fields);
     let bytes = first_bytes(text, fields[fields::TEXT + 1] as usize);
     let machine = machine_of(fields);
-    let register_taints = fields[fields::REGISTERS + 11];
+    let register_marks = fields[fields::REGISTERS + 11];
     let mut addresses = [0u64; LONGEST];
     let mut numbers = [0u64; LONGEST];
-    let mut taints = [0u64; LONGEST];
+    let mut marks = [0u64; LONGEST];
     let mut tape = [0u64; LONGEST];
     let mut output = [0u64; LONGEST];
     let addresses_length = fill(&mut addresses, fields, fields::ADDRESSES, 1);
     let numbers_length = fill(&mut numbers, fields, fields::NUMBERS, 2);
-    let taints_length = fill(&mut taints, fields, fields::TAINTS, 3);
+    let marks_length = fill(&mut marks, fields, fields::MARKS, 3);
     let tape_length = fill(&mut tape, fields, fields::TAPE, 4);
     let output_length = fill(&mut output, fields, fields::OUTPUT, 5);
     let called = run(
         entry,
-        is_tainted,
+        is_marked,
         budget,
         words,
         bytes,
         machine,
-        register_taints,
+        register_marks,
         &mut addresses[..addresses_length],
         &mut numbers[..numbers_length],
-        &mut taints[..taints_length],
+        &mut marks[..marks_length],
         &mut tape[..tape_length],
         &mut output[..output_length],
     );
     put(&addresses, next, fields::ADDRESSES);
     put(&numbers, next, fields::NUMBERS);
-    put(&taints, next, fields::TAINTS);
+    put(&marks, next, fields::MARKS);
     put(&tape, next, fields::TAPE);
     put(&output, next, fields::OUTPUT);
     let left = called.machine;
     put_machine(left, next);
-    next[fields::REGISTERS + 11] = called.register_taints;
+    next[fields::REGISTERS + 11] = called.register_marks;
     let answer = called.answer;
     Answered {
         answer,
@@ -115,34 +115,34 @@ fn put_machine(machine: Machine, fields: &mut [u64; SIZE]) {
 
 fn run(
     entry: Entry,
-    is_tainted: bool,
+    is_marked: bool,
     budget: u64,
     words: &[u64],
     text: &[u8],
     machine: Machine,
-    register_taints: u64,
+    register_marks: u64,
     addresses: &mut [u64],
     numbers: &mut [u64],
-    taints: &mut [u64],
+    marks: &mut [u64],
     tape: &mut [u64],
     output: &mut [u64],
 ) -> Called {
-    if is_tainted {
-        return run_tainted(
+    if is_marked {
+        return run_guarded(
             entry,
             budget,
             words,
             text,
             machine,
-            register_taints,
+            register_marks,
             addresses,
             numbers,
-            taints,
+            marks,
             tape,
             output,
         );
     }
-    with_taints(
+    with_marks(
         run_plain(
             entry,
             budget,
@@ -154,7 +154,7 @@ fn run(
             tape,
             output,
         ),
-        register_taints,
+        register_marks,
     )
 }
 
@@ -188,76 +188,76 @@ fn run_plain(
     }
 }
 
-fn run_tainted(
+fn run_guarded(
     entry: Entry,
     budget: u64,
     words: &[u64],
     text: &[u8],
     machine: Machine,
-    register_taints: u64,
+    register_marks: u64,
     addresses: &mut [u64],
     numbers: &mut [u64],
-    taints: &mut [u64],
+    marks: &mut [u64],
     tape: &mut [u64],
     output: &mut [u64],
 ) -> Called {
     match entry {
-        Entry::Words => tainted::run_words(
+        Entry::Words => guarded::run_words(
             words,
             budget,
             machine,
-            register_taints,
+            register_marks,
             addresses,
             numbers,
-            taints,
+            marks,
             tape,
             output,
         ),
-        Entry::Step => after_tainted_step(machine::lend_and_step_tainted(
-            TaintedMachine {
+        Entry::Step => after_guarded_step(machine::lend_and_step_guarded(
+            GuardedMachine {
                 machine,
-                register_taints,
+                register_marks,
             },
             words,
             addresses,
             numbers,
-            taints,
+            marks,
             tape,
             output,
         )),
-        Entry::Text => tainted::run_text(
+        Entry::Text => guarded::run_text(
             text,
             budget,
             machine,
-            register_taints,
+            register_marks,
             addresses,
             numbers,
-            taints,
+            marks,
             tape,
             output,
         ),
-        Entry::BudgetText => tainted::run_budget_text(
+        Entry::BudgetText => guarded::run_budget_text(
             text,
             machine,
-            register_taints,
+            register_marks,
             addresses,
             numbers,
-            taints,
+            marks,
             tape,
             output,
         ),
     }
 }
 
-// A plain call leaves the taints of the registers.
-fn with_taints(called: executor::Called, register_taints: u64) -> Called {
+// A plain call leaves the marks of the registers.
+fn with_marks(called: executor::Called, register_marks: u64) -> Called {
     let answer = called.answer;
     let machine = called.machine;
     Called {
         answer,
         steps: called.steps,
         machine,
-        register_taints,
+        register_marks,
     }
 }
 
@@ -273,7 +273,7 @@ fn after_step(stepped: Stepped) -> executor::Called {
     }
 }
 
-fn after_tainted_step(stepped: TaintedStepped) -> Called {
+fn after_guarded_step(stepped: GuardedStepped) -> Called {
     let answered = stepped.answered;
     let answer = answered.answer;
     let left = stepped.machine;
@@ -282,6 +282,6 @@ fn after_tainted_step(stepped: TaintedStepped) -> Called {
         answer,
         steps: answered.steps,
         machine,
-        register_taints: left.register_taints,
+        register_marks: left.register_marks,
     }
 }

@@ -26,7 +26,7 @@ pub(crate) const ADDRESSES: usize = 5 * PART;
 
 pub(crate) const NUMBERS: usize = 6 * PART;
 
-pub(crate) const TAINTS: usize = 7 * PART;
+pub(crate) const MARKS: usize = 7 * PART;
 
 pub(crate) const TAPE: usize = 8 * PART;
 

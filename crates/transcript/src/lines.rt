@@ -42,7 +42,7 @@ fn is_understood(line: &[u8], fields: &mut [u64; SIZE], text: &mut [u8; TEXT_SIZ
         b'b' => read_numbers(line, fields, fields::BUFFERS),
         b'a' => read_numbers(line, fields, fields::ADDRESSES),
         b'n' => read_numbers(line, fields, fields::NUMBERS),
-        b'm' => read_numbers(line, fields, fields::TAINTS),
+        b'm' => read_numbers(line, fields, fields::MARKS),
         b't' => read_numbers(line, fields, fields::TAPE),
         b'o' => read_numbers(line, fields, fields::OUTPUT),
         b'p' => {

@@ -15,7 +15,7 @@ pub(crate) fn play_case(
     line: &[u8],
     fields: &mut [u64; SIZE],
     text: &[u8; TEXT_SIZE],
-    is_tainted: bool,
+    is_marked: bool,
 ) -> bool {
     if !read_numbers(line, fields, fields::BUDGET) {
         return false;
@@ -25,7 +25,7 @@ pub(crate) fn play_case(
     let budget = budget_of(fields);
     run(
         step_of(entry),
-        is_tainted,
+        is_marked,
         budget,
         1,
         text,
@@ -33,7 +33,7 @@ pub(crate) fn play_case(
         &mut shown,
     );
     print(b"run ");
-    run(entry, is_tainted, budget, budget, text, fields, &mut shown);
+    run(entry, is_marked, budget, budget, text, fields, &mut shown);
     true
 }
 
@@ -67,7 +67,7 @@ fn step_of(entry: Entry) -> Entry {
 // Runs the case from its start, in calls of so many steps, and shows what each call did. With a budget of 0 there is no step.
 fn run(
     entry: Entry,
-    is_tainted: bool,
+    is_marked: bool,
     budget: u64,
     most: u64,
     text: &[u8; TEXT_SIZE],
@@ -81,7 +81,7 @@ fn run(
     let mut next = *start;
     let mut left = budget;
     loop {
-        let answered = call(entry, is_tainted, most, text, &fields, &mut next);
+        let answered = call(entry, is_marked, most, text, &fields, &mut next);
         let answer = answered.answer;
         let steps = answered.steps;
         show(answer, steps, &next, shown);

@@ -32,7 +32,7 @@ pub(crate) fn show(answer: Answer, steps: u64, fields: &[u64; SIZE], shown: &mut
     show_changes(b"used", fields, shown, fields::USED);
     show_changes(b"addresses", fields, shown, fields::ADDRESSES);
     show_changes(b"numbers", fields, shown, fields::NUMBERS);
-    show_changes(b"marks", fields, shown, fields::TAINTS);
+    show_changes(b"marks", fields, shown, fields::MARKS);
     show_changes(b"tape", fields, shown, fields::TAPE);
     show_changes(b"output", fields, shown, fields::OUTPUT);
 }

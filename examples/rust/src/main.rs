@@ -1,7 +1,7 @@
 //! The step machine from Rust: a solve in one call, step by step, with a pause, refused, and with a secret. Prints what
 //! examples/expected.txt has.
 
-use ola_library::{check, kilosteps, run, run_tainted, step, Answer, Lent, Machine, Program};
+use ola_library::{check, kilosteps, run, run_guarded, step, Answer, Lent, Machine, Program};
 
 /// Doubles 5, stores it in cell 3, hands it back.
 const DOUBLING: [u64; 9] = [
@@ -81,14 +81,14 @@ fn with_a_secret() {
     let mut lent = Lent::default();
     lent.machine.registers[1] = 7;
     lent.machine.registers[2] = 12345;
-    lent.register_taints = 1 << 2;
+    lent.register_marks = 1 << 2;
     let program = Program::Words {
         words: &GUESSING,
         budget: 100,
     };
-    let answer = run_tainted(program, &mut lent);
+    let answer = run_guarded(program, &mut lent);
     print_answer("with a secret", &answer, &lent.machine);
-    println!("tainted registers: {:x}", lent.register_taints);
+    println!("marked registers: {:x}", lent.register_marks);
 }
 
 fn print_answer(what: &str, answer: &Answer, machine: &Machine) {

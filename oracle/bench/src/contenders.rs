@@ -1,13 +1,13 @@
-//! The three that take the same program and buffers: the yardstick, and the library's plain and tainted run.
+//! The three that take the same program and buffers: the yardstick, and the library's plain and guarded run.
 
-use ola_library::{run, run_tainted, Answer, Lent, Program};
+use ola_library::{run, run_guarded, Answer, Lent, Program};
 
 use crate::timing::{timed, Try};
 use crate::yardstick;
 
 pub const YARDSTICK: usize = 0;
 pub const PLAIN: usize = 1;
-pub const TAINTED: usize = 2;
+pub const GUARDED: usize = 2;
 
 /// Calls that all do `budget` steps.
 #[derive(Clone)]
@@ -29,7 +29,7 @@ impl Calls {
         [
             Box::new(|| self.time(|lent| yardstick::run(&self.words, self.budget, lent))),
             Box::new(move || self.time(|lent| run(program, lent))),
-            Box::new(move || self.time(|lent| run_tainted(program, lent))),
+            Box::new(move || self.time(|lent| run_guarded(program, lent))),
         ]
     }
 

@@ -3,7 +3,7 @@
 use oracle::frames::encode;
 use oracle::state::State;
 
-use crate::contenders::{Calls, PLAIN, TAINTED, YARDSTICK};
+use crate::contenders::{Calls, PLAIN, GUARDED, YARDSTICK};
 use crate::lent::lent;
 use crate::programs;
 use crate::timing::{verdict, Rounds};
@@ -23,7 +23,7 @@ fn most_of_yardstick(frames: usize, cells: u64) -> f64 {
 pub fn table() -> String {
     let mut text = String::from(
         "\
-| frames | cells | yardstick | plain | tainted run | plain / yardstick | tainted run / yardstick |
+| frames | cells | yardstick | plain | guarded run | plain / yardstick | guarded run / yardstick |
 |---|---|---|---|---|---|---|
 ",
     );
@@ -36,12 +36,12 @@ pub fn table() -> String {
                 "| {frames} | {cells} | {:.0} | {:.0} | {:.0} | {} | {:.2} |\n",
                 rounds.time(YARDSTICK),
                 rounds.time(PLAIN),
-                rounds.time(TAINTED),
+                rounds.time(GUARDED),
                 verdict(
                     of_yardstick,
                     of_yardstick <= most_of_yardstick(frames, cells)
                 ),
-                rounds.ratio(TAINTED, YARDSTICK),
+                rounds.ratio(GUARDED, YARDSTICK),
             );
         }
     }

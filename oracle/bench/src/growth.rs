@@ -12,7 +12,7 @@ use oracle::stepper::{Mode, Stepper};
 use Operand::{Absent, Immediate, Register};
 
 use crate::chart::{Line, Panel, BLUE, GREEN, ORANGE, RED};
-use crate::contenders::{Calls, PLAIN, TAINTED, YARDSTICK};
+use crate::contenders::{Calls, PLAIN, GUARDED, YARDSTICK};
 use crate::entry;
 use crate::lent::lent;
 use crate::programs::{self, jump, DISTANCE, SEED};
@@ -202,8 +202,8 @@ fn three_lines(sizes: &[u64], times: &[[f64; 3]]) -> Vec<Line> {
             is_yardstick: false,
         },
         Line {
-            name: "tainted run",
-            points: points(TAINTED),
+            name: "guarded run",
+            points: points(GUARDED),
             color: ORANGE,
             is_yardstick: false,
         },

@@ -4,19 +4,19 @@
 use std::env::current_exe;
 use std::process::Command;
 
-use crate::contenders::{PLAIN, TAINTED, YARDSTICK};
+use crate::contenders::{PLAIN, GUARDED, YARDSTICK};
 use crate::programs;
 use crate::steps::calls;
 
 const FEW: u64 = 2_000;
 const MANY: u64 = 9_000;
 
-/// The columns: a contender, and whether its start has taints.
+/// The columns: a contender, and whether its start has marks.
 const COLUMNS: [(&str, usize, bool); 4] = [
     ("yardstick", YARDSTICK, false),
     ("plain", PLAIN, false),
-    ("tainted run", TAINTED, false),
-    ("tainted run, with taints", TAINTED, true),
+    ("guarded run", GUARDED, false),
+    ("guarded run, with marks", GUARDED, true),
 ];
 
 /// The option by which the benchmark is told to do no more than one counted run.
@@ -69,9 +69,9 @@ pub fn run(arguments: &[String]) -> Result<(), String> {
             "{COUNTED} takes a row, a column and a number of steps"
         ));
     };
-    let (_, contender, tainted) = COLUMNS[column];
+    let (_, contender, guarded) = COLUMNS[column];
     for workload in &programs::rows()[row] {
-        calls(workload, steps as u64)[tainted as usize].tries()[contender]();
+        calls(workload, steps as u64)[guarded as usize].tries()[contender]();
     }
     Ok(())
 }

@@ -2,7 +2,7 @@
 //! check alone.
 
 use ola_library::{
-    check, check_tainted, run, run_tainted, step, step_tainted, Answer, Lent, Program,
+    check, check_guarded, run, run_guarded, step, step_guarded, Answer, Lent, Program,
 };
 use oracle::frames::encode;
 use oracle::state::State;
@@ -29,15 +29,15 @@ const FUNCTIONS: [Function; 8] = [
     ("plain check", |words, lent| {
         check(Program::Words { words, budget: 0 }, lent)
     }),
-    ("tainted run, budget 1", |words, lent| {
-        run_tainted(Program::Words { words, budget: 1 }, lent)
+    ("guarded run, budget 1", |words, lent| {
+        run_guarded(Program::Words { words, budget: 1 }, lent)
     }),
-    ("tainted step, in place", step_tainted),
-    ("tainted run, budget 0", |words, lent| {
-        run_tainted(Program::Words { words, budget: 0 }, lent)
+    ("guarded step, in place", step_guarded),
+    ("guarded run, budget 0", |words, lent| {
+        run_guarded(Program::Words { words, budget: 0 }, lent)
     }),
-    ("tainted check", |words, lent| {
-        check_tainted(Program::Words { words, budget: 0 }, lent)
+    ("guarded check", |words, lent| {
+        check_guarded(Program::Words { words, budget: 0 }, lent)
     }),
 ];
 

@@ -16,10 +16,10 @@ pub fn lent(start: &State) -> Lent {
             tape_count: start.tape.len() as u64,
             output_count: start.output.len() as u64,
         },
-        register_taints: 0,
+        register_marks: 0,
         addresses: padded(start.cells.keys(), MOST_CELLS),
         numbers: padded(start.cells.values(), MOST_CELLS),
-        taints: vec![0; MOST_CELLS],
+        marks: vec![0; MOST_CELLS],
         tape: padded(&start.tape, MOST_TAPE as usize),
         output: padded(&start.output, MOST_OUTPUT),
     }

@@ -11,9 +11,9 @@ pub struct Workload {
     pub name: &'static str,
     pub program: Vec<Frame>,
     pub start: State,
-    /// Taints that meet no sink: a bit for each register, and every cell or none.
-    pub tainted_registers: u64,
-    pub tainted_cells: bool,
+    /// MarkState that meet no sink: a bit for each register, and every cell or none.
+    pub marked_registers: u64,
+    pub marked_cells: bool,
     /// How many times as fast as `resume` the plain run has to be, and how many times as slow as the yardstick it may be.
     pub wanted_speedup: f64,
     pub most_of_yardstick: f64,
@@ -50,8 +50,8 @@ fn workload(
         name,
         program,
         start: State::default(),
-        tainted_registers: 0,
-        tainted_cells: false,
+        marked_registers: 0,
+        marked_cells: false,
         wanted_speedup,
         most_of_yardstick,
     }
@@ -59,7 +59,7 @@ fn workload(
 
 pub fn arithmetic() -> Workload {
     Workload {
-        tainted_registers: 1 << 2,
+        marked_registers: 1 << 2,
         ..workload(
             "arithmetic",
             45.0,
@@ -76,7 +76,7 @@ pub fn arithmetic() -> Workload {
 
 fn bitwise() -> Workload {
     Workload {
-        tainted_registers: 1 << 4,
+        marked_registers: 1 << 4,
         ..workload(
             "bitwise",
             45.0,
@@ -110,8 +110,8 @@ fn memory() -> Workload {
     memory.start.cells = (0..MEMORY_CELLS)
         .map(|address| (address, address))
         .collect();
-    memory.tainted_registers = 1 << 2;
-    memory.tainted_cells = true;
+    memory.marked_registers = 1 << 2;
+    memory.marked_cells = true;
     memory
 }
 
@@ -128,7 +128,7 @@ fn call() -> Workload {
     );
     call.start.registers[9] = 100;
     call.start.cells = [(98, 100), (99, 0)].into();
-    call.tainted_registers = 1 << 8;
+    call.marked_registers = 1 << 8;
     call
 }
 
@@ -143,7 +143,7 @@ fn tape_load() -> Workload {
         ],
     );
     load.start.tape = (0..16).collect();
-    load.tainted_registers = 1 << 8;
+    load.marked_registers = 1 << 8;
     load
 }
 
@@ -164,8 +164,8 @@ fn sparse() -> Workload {
     sparse.start.cells = (0..MEMORY_CELLS)
         .map(|number| (number * DISTANCE + 7, number))
         .collect();
-    sparse.tainted_registers = 1 << 2;
-    sparse.tainted_cells = true;
+    sparse.marked_registers = 1 << 2;
+    sparse.marked_cells = true;
     sparse
 }
 
@@ -180,7 +180,7 @@ pub fn of_length(frames: usize) -> Vec<Frame> {
     std::iter::once(jump(0)).chain(rest).collect()
 }
 
-/// Programs drawn from a seed. R0 to R3 have any number below p, R4 to R7 small ones, R8 is tainted in the tainted run, R9 points
+/// Programs drawn from a seed. R0 to R3 have any number below p, R4 to R7 small ones, R8 is marked in the guarded run, R9 points
 /// into the stack. Cells 0 to 255 are present, those from 240 on are for calls.
 fn generated() -> Vec<Workload> {
     let mut random = SplitMix64::new(SEED);
@@ -191,7 +191,7 @@ fn generated() -> Vec<Workload> {
             mix.start.cells = (0..256).map(|address| (address, address)).collect();
             mix.start.cells.insert(248, 250);
             mix.start.tape = (0..64).collect();
-            mix.tainted_registers = 1 << 8;
+            mix.marked_registers = 1 << 8;
             mix
         })
         .collect()

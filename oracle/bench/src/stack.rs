@@ -3,7 +3,7 @@
 use std::hint::black_box;
 use std::thread;
 
-use ola_library::{run, run_tainted, Lent, Program};
+use ola_library::{run, run_guarded, Lent, Program};
 use oracle::frames::encode;
 use oracle::state::State;
 
@@ -36,12 +36,12 @@ pub fn table() -> String {
         ("plain, bare words", of_call(|lent| run(words, lent).steps)),
         ("plain, text", of_call(|lent| run(text, lent).steps)),
         (
-            "tainted run, bare words",
-            of_call(|lent| run_tainted(words, lent).steps),
+            "guarded run, bare words",
+            of_call(|lent| run_guarded(words, lent).steps),
         ),
         (
-            "tainted run, text",
-            of_call(|lent| run_tainted(text, lent).steps),
+            "guarded run, text",
+            of_call(|lent| run_guarded(text, lent).steps),
         ),
     ] {
         table += &format!("| {name} | {used} |\n");

@@ -1,4 +1,4 @@
-//! The time of a step: the Rust `resume`, the yardstick, and the library's plain and tainted run.
+//! The time of a step: the Rust `resume`, the yardstick, and the library's plain and guarded run.
 
 use oracle::frames::encode;
 use oracle::outcome::Outcome;
@@ -13,13 +13,13 @@ const ROUNDS: usize = 101;
 const STEPS: u64 = 20_000;
 const STEPS_OF_RESUME: u64 = 1_000;
 
-/// The tainted run may be so many times as slow as the plain one, with taints too.
+/// The guarded run may be so many times as slow as the plain one, with marks too.
 const MOST_OF_PLAIN: f64 = 1.25;
 
 pub fn table() -> String {
     let mut text = String::from(
         "\
-| program | resume | yardstick | plain | tainted run | tainted run, with taints | resume / plain | plain / yardstick | tainted run / plain | with taints / plain |
+| program | resume | yardstick | plain | guarded run | guarded run, with marks | resume / plain | plain / yardstick | guarded run / plain | with marks / plain |
 |---|---|---|---|---|---|---|---|---|---|
 ",
     );
@@ -32,10 +32,10 @@ pub fn table() -> String {
 
 fn line(row: &[Workload]) -> String {
     let rounds = Rounds::pooled(row.iter().map(measure));
-    let [resume, yardstick, plain, clean, tainted] = [0, 1, 2, 3, 4];
+    let [resume, yardstick, plain, clean, guarded] = [0, 1, 2, 3, 4];
     let speedup = rounds.ratio(resume, plain);
     let of_yardstick = rounds.ratio(plain, yardstick);
-    let of_plain = [clean, tainted].map(|run| {
+    let of_plain = [clean, guarded].map(|run| {
         let ratio = rounds.ratio(run, plain);
         verdict(ratio, ratio <= MOST_OF_PLAIN)
     });
@@ -46,7 +46,7 @@ fn line(row: &[Workload]) -> String {
         rounds.time(yardstick),
         rounds.time(plain),
         rounds.time(clean),
-        rounds.time(tainted),
+        rounds.time(guarded),
         verdict(speedup, speedup >= row[0].wanted_speedup),
         verdict(of_yardstick, of_yardstick <= row[0].most_of_yardstick),
         of_plain[0],
@@ -54,35 +54,35 @@ fn line(row: &[Workload]) -> String {
     )
 }
 
-/// Nanoseconds a step of `resume`, the yardstick, the plain run, and the tainted run without and with taints.
+/// Nanoseconds a step of `resume`, the yardstick, the plain run, and the guarded run without and with marks.
 fn measure(workload: &Workload) -> Rounds {
-    let [without_taints, with_taints] = calls(workload, STEPS);
-    let [yardstick, plain, clean] = without_taints.tries();
-    let [.., tainted] = with_taints.tries();
+    let [without_marks, with_marks] = calls(workload, STEPS);
+    let [yardstick, plain, clean] = without_marks.tries();
+    let [.., guarded] = with_marks.tries();
     let tries = [
         Box::new(|| of_resume(workload)),
         each_step(yardstick),
         each_step(plain),
         each_step(clean),
-        each_step(tainted),
+        each_step(guarded),
     ];
     Rounds::of(ROUNDS, &tries)
 }
 
-/// One call without and one with taints.
+/// One call without and one with marks.
 pub fn calls(workload: &Workload, steps: u64) -> [Calls; 2] {
-    let without_taints = Calls {
+    let without_marks = Calls {
         words: encode(&workload.program),
         start: lent(&workload.start),
         budget: steps,
         count: 1,
     };
-    let mut with_taints = without_taints.clone();
-    with_taints.start.register_taints = workload.tainted_registers;
-    if workload.tainted_cells {
-        with_taints.start.taints[..workload.start.cells.len()].fill(1);
+    let mut with_marks = without_marks.clone();
+    with_marks.start.register_marks = workload.marked_registers;
+    if workload.marked_cells {
+        with_marks.start.marks[..workload.start.cells.len()].fill(1);
     }
-    [without_taints, with_taints]
+    [without_marks, with_marks]
 }
 
 fn each_step(call: Try) -> Try {

@@ -19,7 +19,7 @@ pub fn plain_state(random: &mut SplitMix64, lent: &mut Lent) {
         5 => resize(random, &mut lent.numbers),
         6 => {
             let length = around(random, GREATEST.cells);
-            for cells in [&mut lent.addresses, &mut lent.numbers, &mut lent.taints] {
+            for cells in [&mut lent.addresses, &mut lent.numbers, &mut lent.marks] {
                 cells.resize(length, 0);
             }
         }
@@ -39,7 +39,7 @@ pub fn plain_state(random: &mut SplitMix64, lent: &mut Lent) {
         12 => set_one(random, &mut lent.numbers, &[P, P + 1, u64::MAX]),
         // Beyond the counts anything may stand.
         _ => {
-            for buffer in [&mut lent.addresses, &mut lent.numbers, &mut lent.taints] {
+            for buffer in [&mut lent.addresses, &mut lent.numbers, &mut lent.marks] {
                 let start = used.min(buffer.len());
                 buffer[start..].fill(random.draw());
             }
@@ -48,22 +48,22 @@ pub fn plain_state(random: &mut SplitMix64, lent: &mut Lent) {
 }
 
 /// Damages marks, which the plain run does not look at, or marked numbers.
-pub fn taints(random: &mut SplitMix64, lent: &mut Lent) {
+pub fn marks(random: &mut SplitMix64, lent: &mut Lent) {
     match random.below(5) {
-        0 => resize(random, &mut lent.taints),
-        1 => set_one(random, &mut lent.taints, &[1, 2, u64::MAX]),
-        2 => lent.register_taints |= 1 << random.below(64),
+        0 => resize(random, &mut lent.marks),
+        1 => set_one(random, &mut lent.marks, &[1, 2, u64::MAX]),
+        2 => lent.register_marks |= 1 << random.below(64),
         3 => {
             let register = random.below(10) as usize;
-            lent.register_taints |= 1 << register;
+            lent.register_marks |= 1 << register;
             lent.machine.registers[register] = random.pick(&[P - 1, P, P + 1, u64::MAX]);
         }
         _ => {
             let place = random.below(lent.numbers.len().max(1) as u64) as usize;
-            if let (Some(taint), Some(number)) =
-                (lent.taints.get_mut(place), lent.numbers.get_mut(place))
+            if let (Some(mark), Some(number)) =
+                (lent.marks.get_mut(place), lent.numbers.get_mut(place))
             {
-                *taint = 1;
+                *mark = 1;
                 *number = random.pick(&[P - 1, P]);
             }
         }

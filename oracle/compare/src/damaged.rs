@@ -1,7 +1,7 @@
 //! Calls with damaged states, words and texts, in fenced buffers: what they answer and leave is what the model of the entry says, and the
 //! check alone says what the call is refused with.
 
-use ola_library::{check, check_tainted, Answer, Lent, Program};
+use ola_library::{check, check_guarded, Answer, Lent, Program};
 use oracle::frames::Frame;
 
 use crate::damage;
@@ -25,7 +25,7 @@ enum Shape {
 }
 
 const SHAPES: [Shape; 3] = [Shape::Words, Shape::Text, Shape::BudgetText];
-const RUNS: [Run; 2] = [Run::Plain, Run::Tainted];
+const RUNS: [Run; 2] = [Run::Plain, Run::Guarded];
 
 pub fn compare(options: &Options) -> Result<(), String> {
     let mut counts = Counts::default();
@@ -50,7 +50,7 @@ fn compare_call(seed: u64, number: u64, counts: &mut Counts) -> Result<(), Strin
     let budget = random.below(MOST_STEPS);
     let (mut words, mut text) = written(&case.program, shape, budget);
     let mut start = starts::lent_start(&mut random, &case.start);
-    starts::taint(&mut random, &mut start);
+    starts::mark(&mut random, &mut start);
     if random.percent(50) {
         for _ in 0..1 + random.below(2) {
             match shape {
@@ -66,7 +66,7 @@ fn compare_call(seed: u64, number: u64, counts: &mut Counts) -> Result<(), Strin
         damage::plain_state(&mut random, &mut start);
     }
     if random.percent(20) {
-        damage::taints(&mut random, &mut start);
+        damage::marks(&mut random, &mut start);
     }
     let program = match shape {
         Shape::Words => Program::Words {
@@ -131,7 +131,7 @@ fn predicted_call(
     predicted.holds(&answer, &fenced.lent())?;
     let checked = match run {
         Run::Plain => check(program, start),
-        Run::Tainted => check_tainted(program, start),
+        Run::Guarded => check_guarded(program, start),
     };
     let expected = match predicted.refusal {
         Some(_) => answer,
@@ -149,11 +149,11 @@ fn predicted_call(
 fn function_name(shape: Shape, run: Run) -> &'static str {
     match (shape, run) {
         (Shape::Words, Run::Plain) => "ola_run_words",
-        (Shape::Words, Run::Tainted) => "ola_tainted_run_words",
+        (Shape::Words, Run::Guarded) => "ola_guarded_run_words",
         (Shape::Text, Run::Plain) => "ola_run_text",
-        (Shape::Text, Run::Tainted) => "ola_tainted_run_text",
+        (Shape::Text, Run::Guarded) => "ola_guarded_run_text",
         (Shape::BudgetText, Run::Plain) => "ola_run_budget_text",
-        (Shape::BudgetText, Run::Tainted) => "ola_tainted_run_budget_text",
+        (Shape::BudgetText, Run::Guarded) => "ola_guarded_run_budget_text",
     }
 }
 

@@ -3,7 +3,7 @@
 use std::iter::once;
 use std::ops::Range;
 
-use ola_library::{run_slices, run_tainted_slices, Answer, Lent, Machine, Program, Slices};
+use ola_library::{run_slices, run_guarded_slices, Answer, Lent, Machine, Program, Slices};
 
 use crate::entry::Run;
 
@@ -13,7 +13,7 @@ const WIDTH: usize = 8;
 /// The buffers in one piece of memory, and the records in another, each between fences.
 pub struct Fenced {
     memory: Vec<u64>,
-    /// Addresses, numbers, taints, tape, output.
+    /// Addresses, numbers, marks, tape, output.
     ranges: [Range<usize>; 5],
     records: Records,
 }
@@ -23,8 +23,8 @@ struct Records {
     before: [u64; WIDTH],
     machine: Machine,
     after_machine: [u64; WIDTH],
-    register_taints: u64,
-    after_taints: [u64; WIDTH],
+    register_marks: u64,
+    after_marks: [u64; WIDTH],
     answer: Answer,
     after_answer: [u64; WIDTH],
 }
@@ -34,7 +34,7 @@ impl Fenced {
         let buffers = [
             &lent.addresses,
             &lent.numbers,
-            &lent.taints,
+            &lent.marks,
             &lent.tape,
             &lent.output,
         ];
@@ -53,8 +53,8 @@ impl Fenced {
                 before: fence,
                 machine: lent.machine,
                 after_machine: fence,
-                register_taints: lent.register_taints,
-                after_taints: fence,
+                register_marks: lent.register_marks,
+                after_marks: fence,
                 answer: Answer::default(),
                 after_answer: fence,
             },
@@ -63,37 +63,37 @@ impl Fenced {
 
     pub fn call(&mut self, program: Program, run: Run) -> Answer {
         let base = self.memory.as_mut_ptr();
-        let [addresses, numbers, taints, tape, output] = self.ranges.clone().map(|range| {
+        let [addresses, numbers, marks, tape, output] = self.ranges.clone().map(|range| {
             // SAFETY: the ranges are inside `memory` and do not overlap.
             unsafe { std::slice::from_raw_parts_mut(base.add(range.start), range.len()) }
         });
         let records = &mut self.records;
         let lent = Slices {
             machine: &mut records.machine,
-            register_taints: &mut records.register_taints,
+            register_marks: &mut records.register_marks,
             addresses,
             numbers,
-            taints,
+            marks,
             tape,
             output,
         };
         match run {
             Run::Plain => run_slices(program, lent, &mut records.answer),
-            Run::Tainted => run_tainted_slices(program, lent, &mut records.answer),
+            Run::Guarded => run_guarded_slices(program, lent, &mut records.answer),
         }
         records.answer
     }
 
     /// What the buffers hold now.
     pub fn lent(&self) -> Lent {
-        let [addresses, numbers, taints, tape, output] =
+        let [addresses, numbers, marks, tape, output] =
             self.ranges.clone().map(|range| self.memory[range].to_vec());
         Lent {
             machine: self.records.machine,
-            register_taints: self.records.register_taints,
+            register_marks: self.records.register_marks,
             addresses,
             numbers,
-            taints,
+            marks,
             tape,
             output,
         }
@@ -108,7 +108,7 @@ impl Fenced {
         fences.all(|(start, end)| stands(&self.memory[start..end]))
             && stands(&records.before)
             && stands(&records.after_machine)
-            && stands(&records.after_taints)
+            && stands(&records.after_marks)
             && stands(&records.after_answer)
     }
 }

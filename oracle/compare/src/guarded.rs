@@ -1,7 +1,7 @@
 //! The library's guarded run: pairs of starts that differ in marked numbers alone, the plain run beside it, and the model, which says where
 //! refusal 18 comes.
 
-use ola_library::{run, run_tainted, Answer, Lent, Machine, Program};
+use ola_library::{run, run_guarded, Answer, Lent, Machine, Program};
 use oracle::frames::encode;
 use oracle::splitmix::SplitMix64;
 
@@ -50,7 +50,7 @@ fn compare_program(seed: u64, number: u64, counts: &mut Counts) -> Result<(), St
         damage::plain_state(&mut random, &mut start);
     }
     // Last, so that each marked number is below p.
-    starts::taint(&mut random, &mut start);
+    starts::mark(&mut random, &mut start);
     let twin = starts::twin(&mut random, &start);
 
     compare_pair(program, &start, &twin, counts).map_err(|what| {
@@ -89,9 +89,9 @@ fn compare_pair(
 
 /// The guarded run, held to the model.
 fn guarded(program: Program, start: &Lent) -> Result<(Answer, Lent, Prediction), String> {
-    let predicted = predict(program, start, Run::Tainted);
+    let predicted = predict(program, start, Run::Guarded);
     let mut left = start.clone();
-    let answer = run_tainted(program, &mut left);
+    let answer = run_guarded(program, &mut left);
     predicted.holds(&answer, &left)?;
     Ok((answer, left, predicted))
 }
@@ -101,17 +101,17 @@ fn alike(one: &Lent, other: &Lent) -> Result<(), String> {
     let (a, b) = (&one.machine, &other.machine);
     let mut registers = a.registers.iter().zip(&b.registers).enumerate();
     let same_registers =
-        registers.all(|(register, (a, b))| one.register_taints >> register & 1 == 1 || a == b);
+        registers.all(|(register, (a, b))| one.register_marks >> register & 1 == 1 || a == b);
     let same_rest = Machine {
         registers: a.registers,
         ..*b
     } == *a;
-    if !same_registers || !same_rest || one.register_taints != other.register_taints {
+    if !same_registers || !same_rest || one.register_marks != other.register_marks {
         return Err(format!("machines {a:x?} and {b:x?}"));
     }
     let cells = a.cell_count as usize;
     same_used("addresses", cells, &one.addresses, &other.addresses)?;
-    same_used("taints", cells, &one.taints, &other.taints)?;
+    same_used("marks", cells, &one.marks, &other.marks)?;
     same_used("tape", a.tape_count as usize, &one.tape, &other.tape)?;
     same_used(
         "output",
@@ -121,8 +121,8 @@ fn alike(one: &Lent, other: &Lent) -> Result<(), String> {
     )?;
     let numbers = one.numbers.iter().zip(&other.numbers).take(cells);
     for (place, (a, b)) in numbers.enumerate() {
-        let is_tainted = one.taints.get(place) == Some(&1);
-        if !is_tainted && a != b {
+        let is_marked = one.marks.get(place) == Some(&1);
+        if !is_marked && a != b {
             return Err(format!("numbers[{place}]: {a:x} and {b:x}"));
         }
     }
@@ -148,11 +148,11 @@ fn beside_plain(
     let Program::Words { words, budget } = program else {
         return Err("only words are compared here".to_string());
     };
-    let is_tainted = answer.refused == 1 && answer.number == 18;
-    if is_tainted && answer.steps >= budget {
+    let is_marked = answer.refused == 1 && answer.number == 18;
+    if is_marked && answer.steps >= budget {
         return Err(format!("18 after {} steps of {budget}", answer.steps));
     }
-    let (plain_budget, expected) = if is_tainted {
+    let (plain_budget, expected) = if is_marked {
         let paused = Answer {
             number: 3,
             steps: answer.steps,
@@ -173,8 +173,8 @@ fn beside_plain(
     }
     // The plain run has no marks.
     let expected = Lent {
-        register_taints: start.register_taints,
-        taints: start.taints.clone(),
+        register_marks: start.register_marks,
+        marks: start.marks.clone(),
         ..left.clone()
     };
     match difference(&expected, &plain) {

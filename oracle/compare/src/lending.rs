@@ -20,30 +20,30 @@ pub const GREATEST: Capacity = Capacity {
 pub fn lend(state: &State, capacity: Capacity) -> Lent {
     let mut lent = Lent {
         machine: machine_of(state),
-        register_taints: 0,
+        register_marks: 0,
         addresses: vec![UNUSED; capacity.cells],
         numbers: vec![UNUSED; capacity.cells],
-        taints: vec![UNUSED; capacity.cells],
+        marks: vec![UNUSED; capacity.cells],
         tape: vec![UNUSED; capacity.tape],
         output: vec![UNUSED; capacity.output],
     };
     put(&mut lent.addresses, state.cells.keys());
     put(&mut lent.numbers, state.cells.values());
-    lent.taints[..state.cells.len()].fill(0);
+    lent.marks[..state.cells.len()].fill(0);
     put(&mut lent.tape, &state.tape);
     put(&mut lent.output, &state.output);
     lent
 }
 
 /// The model of a guarded start that the entry accepts.
-pub fn tainted_model(lent: &Lent) -> Model {
+pub fn guarded_model(lent: &Lent) -> Model {
     let mut model = plain_model(lent);
     let count = lent.machine.cell_count as usize;
-    model.register_taints = lent.register_taints;
-    model.tainted_cells = lent.addresses[..count]
+    model.register_marks = lent.register_marks;
+    model.marked_cells = lent.addresses[..count]
         .iter()
-        .zip(&lent.taints)
-        .filter(|(_, taint)| **taint == 1)
+        .zip(&lent.marks)
+        .filter(|(_, mark)| **mark == 1)
         .map(|(address, _)| *address)
         .collect();
     model
@@ -86,11 +86,11 @@ pub fn left_plain(start: &Lent, model: &Model) -> Lent {
 }
 
 /// The same for a guarded run.
-pub fn left_tainted(start: &Lent, model: &Model) -> Lent {
+pub fn left_guarded(start: &Lent, model: &Model) -> Lent {
     let mut lent = left_plain(start, model);
-    lent.register_taints = model.register_taints;
-    for (taint, address) in lent.taints.iter_mut().zip(model.state.cells.keys()) {
-        *taint = model.tainted_cells.contains(address) as u64;
+    lent.register_marks = model.register_marks;
+    for (mark, address) in lent.marks.iter_mut().zip(model.state.cells.keys()) {
+        *mark = model.marked_cells.contains(address) as u64;
     }
     lent
 }
@@ -106,16 +106,16 @@ pub fn difference(expected: &Lent, given: &Lent) -> Option<String> {
             expected.machine, given.machine
         ));
     }
-    if expected.register_taints != given.register_taints {
+    if expected.register_marks != given.register_marks {
         return Some(format!(
-            "register taints: expected {:x}, given {:x}",
-            expected.register_taints, given.register_taints
+            "register marks: expected {:x}, given {:x}",
+            expected.register_marks, given.register_marks
         ));
     }
     [
         ("addresses", &expected.addresses, &given.addresses),
         ("numbers", &expected.numbers, &given.numbers),
-        ("taints", &expected.taints, &given.taints),
+        ("marks", &expected.marks, &given.marks),
         ("tape", &expected.tape, &given.tape),
         ("output", &expected.output, &given.output),
     ]

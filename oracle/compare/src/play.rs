@@ -6,7 +6,7 @@ mod transcript;
 
 use std::io::{Read, Write};
 
-use ola_library::{run, run_tainted, step, step_tainted, Answer, Lent, Program};
+use ola_library::{run, run_guarded, step, step_guarded, Answer, Lent, Program};
 
 use crate::entry::Run;
 use crate::predict::predict;
@@ -27,11 +27,11 @@ impl Machine {
             (Machine::Library, Run::Plain, Program::Words { words, budget: 1 }) => {
                 step(words, lent)
             }
-            (Machine::Library, Run::Tainted, Program::Words { words, budget: 1 }) => {
-                step_tainted(words, lent)
+            (Machine::Library, Run::Guarded, Program::Words { words, budget: 1 }) => {
+                step_guarded(words, lent)
             }
             (Machine::Library, Run::Plain, _) => run(program, lent),
-            (Machine::Library, Run::Tainted, _) => run_tainted(program, lent),
+            (Machine::Library, Run::Guarded, _) => run_guarded(program, lent),
             (Machine::Model, ..) => {
                 let prediction = predict(program, lent, kind);
                 *lent = prediction.left;
@@ -67,7 +67,7 @@ pub fn play(machine: Machine) -> Result<(), String> {
                 let kind = if line[0] == b'p' {
                     Run::Plain
                 } else {
-                    Run::Tainted
+                    Run::Guarded
                 };
                 case.budget_of(line)
                     .map(|budget| play_case(machine, &case, kind, budget, &mut output))

@@ -3,7 +3,7 @@
 use ola_library::{Answer, Lent, Program};
 
 use crate::entry::{enter, Refusal, Run};
-use crate::lending::{difference, left_plain, left_tainted, plain_model, tainted_model};
+use crate::lending::{difference, left_plain, left_guarded, plain_model, guarded_model};
 use crate::model::{Code, Sink};
 
 pub struct Prediction {
@@ -24,12 +24,12 @@ pub fn predict(program: Program, start: &Lent, run: Run) -> Prediction {
     let code = Code::new(&frames);
     let mut model = match run {
         Run::Plain => plain_model(start),
-        Run::Tainted => tainted_model(start),
+        Run::Guarded => guarded_model(start),
     };
     let (answer, sink) = model.run(&code, budget);
     let left = match run {
         Run::Plain => left_plain(start, &model),
-        Run::Tainted => left_tainted(start, &model),
+        Run::Guarded => left_guarded(start, &model),
     };
     Prediction {
         answer,

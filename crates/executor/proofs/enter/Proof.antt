@@ -24,8 +24,8 @@ run-requires c κs =
         s .pre .1,
         record {
           plain = sym (c .before .before .before .before .before .before .before .accepts .ensures) ∙ c .before .before .before .before .before .before .if1 .taken;
-          tainted = λ t. absurd (false-true t);
-          untainted = λ _. (refl, refl);
+          guarded = λ t. absurd (false-true t);
+          unmarked = λ _. (refl, refl);
         },
       ),
     )

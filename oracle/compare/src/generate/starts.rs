@@ -24,18 +24,18 @@ pub fn lent_start(random: &mut SplitMix64, state: &State) -> Lent {
 }
 
 /// Some registers and cells become marked; a marked number is below p.
-pub fn taint(random: &mut SplitMix64, lent: &mut Lent) {
+pub fn mark(random: &mut SplitMix64, lent: &mut Lent) {
     let chance = random.pick(&[2, 5, 15, 40]);
     for (register, number) in lent.machine.registers.iter_mut().enumerate() {
         if random.percent(chance) {
-            lent.register_taints |= 1 << register;
+            lent.register_marks |= 1 << register;
             *number %= P;
         }
     }
-    let cells = lent.taints.iter_mut().zip(&mut lent.numbers);
-    for (taint, number) in cells.take(lent.machine.cell_count as usize) {
+    let cells = lent.marks.iter_mut().zip(&mut lent.numbers);
+    for (mark, number) in cells.take(lent.machine.cell_count as usize) {
         if random.percent(chance) {
-            *taint = 1;
+            *mark = 1;
             *number %= P;
         }
     }
@@ -45,21 +45,21 @@ pub fn taint(random: &mut SplitMix64, lent: &mut Lent) {
 pub fn twin(random: &mut SplitMix64, lent: &Lent) -> Lent {
     let mut twin = lent.clone();
     for (register, number) in twin.machine.registers.iter_mut().enumerate() {
-        if twin.register_taints >> register & 1 == 1 {
+        if twin.register_marks >> register & 1 == 1 {
             *number = values::any(random) % P;
         }
     }
     let machine = &twin.machine;
     let cells = machine.cell_count as usize;
-    for (taint, number) in twin.taints.iter().zip(&mut twin.numbers).take(cells) {
-        if *taint == 1 {
+    for (mark, number) in twin.marks.iter().zip(&mut twin.numbers).take(cells) {
+        if *mark == 1 {
             *number = values::any(random) % P;
         }
     }
     for (buffer, count) in [
         (&mut twin.addresses, cells),
         (&mut twin.numbers, cells),
-        (&mut twin.taints, cells),
+        (&mut twin.marks, cells),
         (&mut twin.tape, machine.tape_count as usize),
         (&mut twin.output, machine.output_count as usize),
     ] {

@@ -13,8 +13,8 @@ pub struct Case {
     words: Option<Vec<u64>>,
     text: Vec<u8>,
     machine: Machine,
-    register_taints: u64,
-    /// The first places of addresses, numbers, taints, tape and output.
+    register_marks: u64,
+    /// The first places of addresses, numbers, marks, tape and output.
     given: [Vec<u64>; 5],
     lengths: [usize; 5],
 }
@@ -25,7 +25,7 @@ impl Default for Case {
             words: None,
             text: vec![],
             machine: machine_of(&State::default()),
-            register_taints: 0,
+            register_marks: 0,
             given: Default::default(),
             lengths: [
                 MOST_CELLS,
@@ -61,7 +61,7 @@ impl Case {
                 let places = machine
                     .registers
                     .iter_mut()
-                    .chain([&mut self.register_taints]);
+                    .chain([&mut self.register_marks]);
                 put(numbers, places);
             }
             b's' => {
@@ -118,10 +118,10 @@ impl Case {
         };
         Lent {
             machine: self.machine,
-            register_taints: self.register_taints,
+            register_marks: self.register_marks,
             addresses: buffer(0),
             numbers: buffer(1),
-            taints: buffer(2),
+            marks: buffer(2),
             tape: buffer(3),
             output: buffer(4),
         }

@@ -47,7 +47,7 @@ impl Transcript {
 
 fn parts(lent: &Lent) -> Vec<(&'static str, Vec<u64>)> {
     let machine = &lent.machine;
-    let registers = [&machine.registers[..], &[lent.register_taints]].concat();
+    let registers = [&machine.registers[..], &[lent.register_marks]].concat();
     let state = [
         &[machine.pc, machine.clk, machine.psp],
         &machine.storage_addr[..],
@@ -60,7 +60,7 @@ fn parts(lent: &Lent) -> Vec<(&'static str, Vec<u64>)> {
         ("used", used),
         ("addresses", lent.addresses.clone()),
         ("numbers", lent.numbers.clone()),
-        ("marks", lent.taints.clone()),
+        ("marks", lent.marks.clone()),
         ("tape", lent.tape.clone()),
         ("output", lent.output.clone()),
     ]

@@ -41,11 +41,11 @@ module _ (c : tie.After-known-told) where
   -- where the upper one is absent
   none-behind : foundOf (take (entry .args .count) (entry .args .addresses .now)) (entry .args .frame - 1) ≡ Absent (place + 1)
       → let a = entry .args in
-      returnsFrom (a .tainted) (cellsOf (a .count) (a .addresses .now) (a .numbers .now)) (cellsOf (a .count) (a .addresses .now) (a .taints .now)) (a .frame)
+      returnsFrom (a .guarded) (cellsOf (a .count) (a .addresses .now) (a .numbers .now)) (cellsOf (a .count) (a .addresses .now) (a .marks .now)) (a .frame)
       ≡ Refuse CellAbsent
   none-behind =
       let a = entry .args in
-      first-absent (a .tainted) (a .count) (a .addresses .now) (a .numbers .now) (a .taints .now) (entry .pre) (a .frame) (place + 1)
+      first-absent (a .guarded) (a .count) (a .addresses .now) (a .numbers .now) (a .marks .now) (entry .pre) (a .frame) (place + 1)
 
 -- where the upper one stands behind it
 module _ (c : tie.Else3) where
@@ -68,7 +68,7 @@ returns : tie.Need-returns
 returns c =
     let s = c .before .before .before .before .before in
     let a = s .args in
-    rw (no-second (a .tainted) (a .count) (a .addresses .now) (a .numbers .now) (a .taints .now) (s .pre) (a .frame) (c .before .if1 .taken))
+    rw (no-second (a .guarded) (a .count) (a .addresses .now) (a .numbers .now) (a .marks .now) (s .pre) (a .frame) (c .before .if1 .taken))
     (c .refuse .ensures)
 
 sub-find : tie.Need-sub-find
@@ -138,7 +138,7 @@ shared-slice-read-if5 c =
     let k = c .before .before in
     let h = behind k in
     let w = entry (found k) .pre .addresses .within in
-    let l = entry (found k) .pre .taintLevel (c .before .if4 .taken) in
+    let l = entry (found k) .pre .markLevel (c .before .if4 .taken) in
     omega arith
 
 sink-requires : tie.Need-sink-requires
@@ -146,12 +146,12 @@ sink-requires c κs = search needs
 
 -- what both cells say
 returned : (c : tie.Else3) → let a = entry (found c) .args in let i = place (found c) in
-    returnsFrom (a .tainted) (cellsOf (a .count) (a .addresses .now) (a .numbers .now)) (cellsOf (a .count) (a .addresses .now) (a .taints .now)) (a .frame)
-    ≡ sinkWhere (a .tainted && eqb (getD (a .taints .now) (i + 1) 0) 1)
-    (SetRegister 9 (getD (a .numbers .now) i 0) (a .tainted && eqb (getD (a .taints .now) i 0) 1) (getD (a .numbers .now) (i + 1) 0))
+    returnsFrom (a .guarded) (cellsOf (a .count) (a .addresses .now) (a .numbers .now)) (cellsOf (a .count) (a .addresses .now) (a .marks .now)) (a .frame)
+    ≡ sinkWhere (a .guarded && eqb (getD (a .marks .now) (i + 1) 0) 1)
+    (SetRegister 9 (getD (a .numbers .now) i 0) (a .guarded && eqb (getD (a .marks .now) i 0) 1) (getD (a .numbers .now) (i + 1) 0))
 returned c =
     let s = entry (found c) in
-    both-present (s .args .tainted) (s .args .count) (s .args .addresses .now) (s .args .numbers .now) (s .args .taints .now) (s .pre) (s .args .frame)
+    both-present (s .args .guarded) (s .args .count) (s .args .addresses .now) (s .args .numbers .now) (s .args .marks .now) (s .pre) (s .args .frame)
     (place (found c)) (place (found c) + 1) (two-below (found c)) (at-place (found c)) (at-next c)
 
 returns-4 : tie.Need-returns-4
@@ -159,8 +159,8 @@ unfolding sinkWhere
 returns-4 c =
     let k = c .before .before .before .before in
     let a = entry (found k) .args in
-    let x = eqb (getD (a .taints .now) (place (found k) + 1) 0) 1 in
-    let e : (a .tainted && x) ≡ true = ap (λ t. t && x) (c .before .before .before .if4 .taken) ∙ eq-eqb _ _ (c .before .if5 .taken) in
+    let x = eqb (getD (a .marks .now) (place (found k) + 1) 0) 1 in
+    let e : (a .guarded && x) ≡ true = ap (λ t. t && x) (c .before .before .before .if4 .taken) ∙ eq-eqb _ _ (c .before .if5 .taken) in
     rw (returned k, e) (c .sink .ensures)
 
 mul-set-register : tie.Need-mul-set-register
@@ -177,7 +177,7 @@ shared-slice-read-set-register-2 c =
     let k = c .before .before .before .before in
     let h = behind k in
     let w = entry (found k) .pre .addresses .within in
-    let l = entry (found k) .pre .taintLevel (c .before .if6 .taken) in
+    let l = entry (found k) .pre .markLevel (c .before .if6 .taken) in
     omega arith
 
 add-set-register : tie.Need-add-set-register
@@ -197,22 +197,22 @@ returns-5 c =
     let s = c .before .before .before .before .before .before .before .before in
     let a = s .args in
     let e = sym (c .before .before .before .find .ensures) ∙ c .before .enum-told .given .1 in
-    rw (second-absent (a .tainted) (a .count) (a .addresses .now) (a .numbers .now) (a .taints .now) (s .pre) (a .frame) _ e) (c .refuse2 .ensures)
+    rw (second-absent (a .guarded) (a .count) (a .addresses .now) (a .numbers .now) (a .marks .now) (s .pre) (a .frame) _ e) (c .refuse2 .ensures)
 
--- the upper cell is not tainted, in a tainted run
+-- the upper cell is not marked, in a guarded run
 clean : (c : tie.Joined4) → let k = found (c .before) in
-    (entry k .args .tainted && eqb (getD (entry k .args .taints .now) (place k + 1) 0) 1) ≡ false
+    (entry k .args .guarded && eqb (getD (entry k .args .marks .now) (place k + 1) 0) 1) ≡ false
 clean c =
     let s = entry (found (c .before)) .args in
-    let x = eqb (getD (s .taints .now) (place (found (c .before)) + 1) 0) 1 in
+    let x = eqb (getD (s .marks .now) (place (found (c .before)) + 1) 0) 1 in
     ⊎-elim (λ w. ap (λ t. t && x) (w .0 .taken) ∙ ne-eqb _ _ (w .2 .left)) (λ w. ap (λ t. t && x) (w .left)) (c .if4 .came)
 
--- the lower one's taint
+-- the lower one's mark
 lower : (c : tie.Joined6) → let k = found (c .before .before .before) in
-    c .if6 .set-register ≡ entry k .args .tainted && eqb (getD (entry k .args .taints .now) (place k) 0) 1
+    c .if6 .set-register ≡ entry k .args .guarded && eqb (getD (entry k .args .marks .now) (place k) 0) 1
 lower c =
     let k = found (c .before .before .before) in
-    let x = eqb (getD (entry k .args .taints .now) (place k) 0) 1 in
+    let x = eqb (getD (entry k .args .marks .now) (place k) 0) 1 in
     ⊎-elim (λ w. w .2 ∙ sym (ap (λ t. t && x) (w .0 .taken)))
     (λ w. w .1 ∙ w .0 .left ∙ sym (ap (λ t. t && x) (w .0 .left))) (c .if6 .came)
 

@@ -22,7 +22,7 @@ returns-2 : tie.Need-returns-2
 unfolding check onResult sinkWhere
 returns-2 c =
     let a = c .before .before .before .before .args in
-    let e : a .taint ≡ true = c .before .if2 .taken in
+    let e : a .mark ≡ true = c .before .if2 .taken in
     rw (le-leb (a .a) 1 (omega arith), e) (c .sink .ensures)
 
 jump-requires : tie.Need-jump-requires
@@ -32,7 +32,7 @@ returns-3 : tie.Need-returns-3
 unfolding check onResult sinkWhere
 returns-3 c =
     let a = c .before .before .before .before .before .args in
-    let e : a .taint ≡ false = c .before .before .if2 .left in
+    let e : a .mark ≡ false = c .before .before .if2 .left in
     rw (le-leb (a .a) 1 (omega arith), e, eq-eqb (a .a) 1 (c .before .if3 .taken)) (c .jump .ensures)
 
 next-requires : tie.Need-next-requires
@@ -45,7 +45,7 @@ returns-4 : tie.Need-returns-4
 unfolding check onResult sinkWhere
 returns-4 c =
     let a = c .before .before .before .before .before .before .args in
-    let e : a .taint ≡ false = c .before .before .before .if2 .left in
+    let e : a .mark ≡ false = c .before .before .before .if2 .left in
     rw (le-leb (a .a) 1 (omega arith), e, ne-eqb (a .a) 1 (c .before .before .if3 .left), ← c .before .next .ensures) (c .jump2 .ensures)
 
 pub jump-where-spec : {M : Type 1} → statement M

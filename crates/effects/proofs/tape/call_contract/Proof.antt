@@ -22,8 +22,8 @@ refuse-requires c κs = search needs
 enum-known-at : tie.Need-enum-known-at
 enum-known-at c = search needs
 
-is-part-tainted-requires : tie.Need-is-part-tainted-requires
-is-part-tainted-requires c κs =
+is-part-marked-requires : tie.Need-is-part-marked-requires
+is-part-marked-requires c κs =
     λ t.
     let s = c .before .before .before .before .before .before .before in
     let h = among-within (s .args .count) (s .args .addresses .now) (s .pre .0) (s .args .start) 4 (c .before .at .given .0 .0) (sym (c .before .at .given .1) ∙ c .before .before .before .find-cells .ensures) in
@@ -36,7 +36,7 @@ sink-requires c κs = search needs
 
 returns : tie.Need-returns
 unfolding sinkWhere
-returns c = rw (sym (c .before .before .before .before .before .before .find-cells .ensures) ∙ c .before .before .before .before .at .given .1, sym (c .before .before .is-part-tainted .ensures) ∙ c .before .if1 .taken) (c .sink .ensures)
+returns c = rw (sym (c .before .before .before .before .before .before .find-cells .ensures) ∙ c .before .before .before .before .at .given .1, sym (c .before .before .is-part-marked .ensures) ∙ c .before .if1 .taken) (c .sink .ensures)
 
 sub-if2 : tie.Need-sub-if2
 sub-if2 c = search needs
@@ -48,7 +48,7 @@ returns-2 : tie.Need-returns-2
 unfolding sinkWhere check
 returns-2 c =
     let s = c .before .before .before .before .before .before .before .before .before .before .before .args in
-    rw (sym (c .before .before .before .before .before .before .before .find-cells .ensures) ∙ c .before .before .before .before .before .at .given .1, sym (c .before .before .before .is-part-tainted .ensures) ∙ c .before .before .if1 .left, lt-leb (s .used + 12) (length (s .tape .now)) (omega arith)) (c .refuse2 .ensures)
+    rw (sym (c .before .before .before .before .before .before .before .find-cells .ensures) ∙ c .before .before .before .before .before .at .given .1, sym (c .before .before .before .is-part-marked .ensures) ∙ c .before .before .if1 .left, lt-leb (s .used + 12) (length (s .tape .now)) (omega arith)) (c .refuse2 .ensures)
 
 call-contract-requires : tie.Need-call-contract-requires
 call-contract-requires c κs = search needs
@@ -60,7 +60,7 @@ returns-4 : tie.Need-returns-4
 unfolding sinkWhere check
 returns-4 c =
     let s = c .before .before .before .before .before .before .before .before .before .before .before .args in
-    rw (sym (c .before .before .before .before .before .before .before .find-cells .ensures) ∙ c .before .before .before .before .before .at .given .1, sym (c .before .before .before .is-part-tainted .ensures) ∙ c .before .before .if1 .left, le-leb (s .used + 12) (length (s .tape .now)) (omega arith)) (c .call-contract .ensures)
+    rw (sym (c .before .before .before .before .before .before .before .find-cells .ensures) ∙ c .before .before .before .before .before .at .given .1, sym (c .before .before .before .is-part-marked .ensures) ∙ c .before .before .if1 .left, le-leb (s .used + 12) (length (s .tape .now)) (omega arith)) (c .call-contract .ensures)
 
 pub call-contract-spec : {M : Type 1} → statement M
 call-contract-spec =
@@ -70,7 +70,7 @@ call-contract-spec =
     enum-known-f
     refuse-requires
     enum-known-at
-    is-part-tainted-requires
+    is-part-marked-requires
     sink-requires
     returns
     sub-if2

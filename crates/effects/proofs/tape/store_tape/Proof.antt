@@ -22,8 +22,8 @@ refuse-requires c κs = search needs
 enum-known-at : tie.Need-enum-known-at
 enum-known-at c = search needs
 
-is-part-tainted-requires : tie.Need-is-part-tainted-requires
-is-part-tainted-requires c κs =
+is-part-marked-requires : tie.Need-is-part-marked-requires
+is-part-marked-requires c κs =
     λ t.
     let s = c .before .before .before .before .before .before .before .before in
     let h = among-within (s .args .count) (s .args .addresses .now) (s .pre .0) (s .args .start) (s .args .n) (c .before .at .given .0 .0) (sym (c .before .at .given .1) ∙ c .before .before .before .find-cells .ensures) in
@@ -36,7 +36,7 @@ sink-requires c κs = search needs
 
 returns : tie.Need-returns
 unfolding sinkWhere
-returns c = rw (sym (c .before .before .before .before .before .before .find-cells .ensures) ∙ c .before .before .before .before .at .given .1, sym (c .before .before .is-part-tainted .ensures) ∙ c .before .if1 .taken) (c .sink .ensures)
+returns c = rw (sym (c .before .before .before .before .before .before .find-cells .ensures) ∙ c .before .before .before .before .at .given .1, sym (c .before .before .is-part-marked .ensures) ∙ c .before .if1 .taken) (c .sink .ensures)
 
 sub-if2 : tie.Need-sub-if2
 sub-if2 c = search needs
@@ -48,7 +48,7 @@ returns-2 : tie.Need-returns-2
 unfolding sinkWhere check
 returns-2 c =
     let s = c .before .before .before .before .before .before .before .before .before .before .before .before .args in
-    rw (sym (c .before .before .before .before .before .before .before .find-cells .ensures) ∙ c .before .before .before .before .before .at .given .1, sym (c .before .before .before .is-part-tainted .ensures) ∙ c .before .before .if1 .left, lt-leb (s .used + s .n) (length (s .tape .now)) (omega arith)) (c .refuse2 .ensures)
+    rw (sym (c .before .before .before .before .before .before .before .find-cells .ensures) ∙ c .before .before .before .before .before .at .given .1, sym (c .before .before .before .is-part-marked .ensures) ∙ c .before .before .if1 .left, lt-leb (s .used + s .n) (length (s .tape .now)) (omega arith)) (c .refuse2 .ensures)
 
 sub-if3 : tie.Need-sub-if3
 sub-if3 c = search needs
@@ -60,7 +60,7 @@ returns-3 : tie.Need-returns-3
 unfolding sinkWhere check
 returns-3 c =
     let s = c .before .before .before .before .before .before .before .before .before .before .before .before .before .args in
-    rw (sym (c .before .before .before .before .before .before .before .before .find-cells .ensures) ∙ c .before .before .before .before .before .before .at .given .1, sym (c .before .before .before .before .is-part-tainted .ensures) ∙ c .before .before .before .if1 .left, le-leb (s .used + s .n) (length (s .tape .now)) (omega arith), lt-leb (s .shown + s .n) (length (s .output .now)) (omega arith)) (c .refuse3 .ensures)
+    rw (sym (c .before .before .before .before .before .before .before .before .find-cells .ensures) ∙ c .before .before .before .before .before .before .at .given .1, sym (c .before .before .before .before .is-part-marked .ensures) ∙ c .before .before .before .if1 .left, le-leb (s .used + s .n) (length (s .tape .now)) (omega arith), lt-leb (s .shown + s .n) (length (s .output .now)) (omega arith)) (c .refuse3 .ensures)
 
 store-tape-requires : tie.Need-store-tape-requires
 store-tape-requires c κs = search needs
@@ -72,7 +72,7 @@ returns-5 : tie.Need-returns-5
 unfolding sinkWhere check
 returns-5 c =
     let s = c .before .before .before .before .before .before .before .before .before .before .before .before .before .args in
-    rw (sym (c .before .before .before .before .before .before .before .before .find-cells .ensures) ∙ c .before .before .before .before .before .before .at .given .1, sym (c .before .before .before .before .is-part-tainted .ensures) ∙ c .before .before .before .if1 .left, le-leb (s .used + s .n) (length (s .tape .now)) (omega arith), le-leb (s .shown + s .n) (length (s .output .now)) (omega arith)) (c .store-tape .ensures)
+    rw (sym (c .before .before .before .before .before .before .before .before .find-cells .ensures) ∙ c .before .before .before .before .before .before .at .given .1, sym (c .before .before .before .before .is-part-marked .ensures) ∙ c .before .before .before .if1 .left, le-leb (s .used + s .n) (length (s .tape .now)) (omega arith), le-leb (s .shown + s .n) (length (s .output .now)) (omega arith)) (c .store-tape .ensures)
 
 pub store-tape-spec : {M : Type 1} → statement M
 store-tape-spec =
@@ -82,7 +82,7 @@ store-tape-spec =
     enum-known-f
     refuse-requires
     enum-known-at
-    is-part-tainted-requires
+    is-part-marked-requires
     sink-requires
     returns
     sub-if2

@@ -1,4 +1,4 @@
--- `hardware::cells::clear` meets its contract. The loop's invariant: the first i taints are zeros.
+-- `hardware::cells::clear` meets its contract. The loop's invariant: the first i marks are zeros.
 use Prim.Native.Nat.{ℕ, _-_, _≤_, zero-le}
 use mathlib.Core.Path.{_≡_, refl, sym, ap, _∙_}
 use mathlib.Core.List.{List}
@@ -13,19 +13,19 @@ use Rattle.hardware.proofs.cells.clear.Statement.{statement}
 use Rattle.hardware.proofs.cells.clear.Tie as tie
 
 abbrev Inv-loop : tie.InvT-loop
-Inv-loop taints₀ i₀ taints i = (i ≤ length taints₀) × (taints ≡ overlay (take i (zeros taints₀)) taints₀) × (length taints ≡ length taints₀)
+Inv-loop marks₀ i₀ marks i = (i ≤ length marks₀) × (marks ≡ overlay (take i (zeros marks₀)) marks₀) × (length marks ≡ length marks₀)
 
 abbrev μ-loop : tie.MeasureT-loop
-μ-loop taints₀ i₀ taints i = length taints₀ - i
+μ-loop marks₀ i₀ marks i = length marks₀ - i
 
 loop-holds : tie.Need-loop-holds Inv-loop μ-loop
 loop-holds c = (zero-le, refl, refl)
 
-mul-taints : tie.Need-mul-taints Inv-loop μ-loop
-mul-taints c = omega arith
+mul-marks : tie.Need-mul-marks Inv-loop μ-loop
+mul-marks c = omega arith
 
-slice-write-taints : tie.Need-slice-write-taints Inv-loop μ-loop
-slice-write-taints c = omega arith
+slice-write-marks : tie.Need-slice-write-marks Inv-loop μ-loop
+slice-write-marks c = omega arith
 
 add-i : tie.Need-add-i Inv-loop μ-loop
 add-i c = omega arith
@@ -35,7 +35,7 @@ loop-less c = omega arith
 
 loop-again : tie.Need-loop-again Inv-loop μ-loop
 loop-again c =
-    let ts = c .before .before .args .taints .now in
+    let ts = c .before .before .args .marks .now in
     let l = c .before .loop in
     let k : length (zeros ts) ≡ length ts = length-zeros ts in (
       omega arith,
@@ -50,7 +50,7 @@ same-length c = c .before .loop .inv .2
 
 returns : tie.Need-returns Inv-loop μ-loop
 returns c =
-    let ts = c .before .before .args .taints .now in
+    let ts = c .before .before .args .marks .now in
     let l = c .before .loop in
     let k : length (zeros ts) ≡ length ts = length-zeros ts in
     l .inv .1 ∙ ap (λ (z : List ℕ). overlay z ts) (take-all (l .i) (zeros ts) (omega arith)) ∙ overlay-all (zeros ts) ts k
@@ -62,8 +62,8 @@ clear-spec =
     Inv-loop
     μ-loop
     loop-holds
-    mul-taints
-    slice-write-taints
+    mul-marks
+    slice-write-marks
     add-i
     loop-less
     loop-again

@@ -1,4 +1,4 @@
--- `hardware::cells::insert` meets its contract: number, address, and in a tainted run the taint are put in at the place.
+-- `hardware::cells::insert` meets its contract: number, address, and in a guarded run the mark are put in at the place.
 use Prim.Native.Nat.{_≤_}
 use mathlib.Core.Path.{refl}
 use mathlib.Core.Bool.{true, false}
@@ -27,7 +27,7 @@ cast-insert-at c = search needs
 insert-at-requires-3 : tie.Need-insert-at-requires-3
 insert-at-requires-3 c κs =
     let s = c .before .before .before .before .before .before .before .before .before .before .before .before .before in
-    let l = s .pre .0 .taintLevel (c .before .if1 .taken) in
+    let l = s .pre .0 .markLevel (c .before .if1 .taken) in
     (omega (arith, place-used s), omega (arith, place-used s, l))
 
 same-length : tie.Need-same-length
@@ -45,8 +45,8 @@ returns c =
     let a = s .args in
     let x = c .before .before .before .before .before .before .before .insert-at2 .ensures in
     let n = c .before .before .before .before .before .before .before .before .before .before .before .insert-at .ensures in
-    inserted-holds (a .tainted) (a .count) (a .addresses .now) (a .numbers .now) (a .taints .now) (s .pre .0) (s .pre .1 .0) (a .address) (a .number)
-    (a .taint) (a .at) (s .pre .1 .1) _ _ _ x n true (c .before .before .before .before .if1 .taken) (c .before .before .insert-at3 .ensures)
+    inserted-holds (a .guarded) (a .count) (a .addresses .now) (a .numbers .now) (a .marks .now) (s .pre .0) (s .pre .1 .0) (a .address) (a .number)
+    (a .mark) (a .at) (s .pre .1 .1) _ _ _ x n true (c .before .before .before .before .if1 .taken) (c .before .before .insert-at3 .ensures)
 
 same-length-4 : tie.Need-same-length-4
 same-length-4 c = search needs
@@ -60,8 +60,8 @@ returns-2 c =
     let a = s .args in
     let x = c .before .before .before .insert-at2 .ensures in
     let n = c .before .before .before .before .before .before .before .insert-at .ensures in
-    inserted-holds (a .tainted) (a .count) (a .addresses .now) (a .numbers .now) (a .taints .now) (s .pre .0) (s .pre .1 .0) (a .address) (a .number)
-    (a .taint) (a .at) (s .pre .1 .1) _ _ _ x n false (c .if1 .left) refl
+    inserted-holds (a .guarded) (a .count) (a .addresses .now) (a .numbers .now) (a .marks .now) (s .pre .0) (s .pre .1 .0) (a .address) (a .number)
+    (a .mark) (a .at) (s .pre .1 .1) _ _ _ x n false (c .if1 .left) refl
 
 pub insert-spec : {M : Type 1} → statement M
 insert-spec =

@@ -63,7 +63,7 @@ move-contents-requires c κs =
     let f = c .before .before in
     let r = found f in
     let o = entry f .pre .0 in
-    (r .used, (omega (arith, o .level), λ t. o .taintLevel t ∙ sym (o .level)))
+    (r .used, (omega (arith, o .level), λ t. o .markLevel t ∙ sym (o .level)))
 
 move-up-requires : tie.Need-move-up-requires
 move-up-requires c κs = let r = found (c .before .before .before .before .before .before .before .before) in (r .used, omega arith)
@@ -117,7 +117,7 @@ returns c =
             e (omega arith) (omega arith) (omega arith) (u .ensures ∙ behind f (a .addresses .now)) (w .ensures),
         (
           m .0 ∙ behind f (a .numbers .now),
-          m .1 ∙ ap (λ (z : List ℕ). choose (a .tainted) z (a .taints .now)) (behind f (a .taints .now)),
+          m .1 ∙ ap (λ (z : List ℕ). choose (a .guarded) z (a .marks .now)) (behind f (a .marks .now)),
         ),
       ),
     )

@@ -1,4 +1,4 @@
--- `hardware::cells::move_contents` meets its contract, by `move_up` of the numbers, and in a tainted run of the taints.
+-- `hardware::cells::move_contents` meets its contract, by `move_up` of the numbers, and in a guarded run of the marks.
 use mathlib.Core.Path.{_≡_}
 use mathlib.Core.Bool.{true}
 use native.Mathlib.Omega.{arith}
@@ -14,8 +14,8 @@ move-up-requires-2 : tie.Need-move-up-requires-2
 move-up-requires-2 c κs =
     let s = c .before .before .before .before .before .before .before .before in
     let q = c .before .if1 .taken in
-    let t : s .args .tainted ≡ true = cc in
-    let l : length (s .args .taints .now) ≡ length (s .args .numbers .now) = s .pre .1 .1 t in
+    let t : s .args .guarded ≡ true = cc in
+    let l : length (s .args .marks .now) ≡ length (s .args .numbers .now) = s .pre .1 .1 t in
     (omega arith, omega arith)
 
 same-length : tie.Need-same-length
@@ -28,7 +28,7 @@ returns : tie.Need-returns
 returns c =
     let s = c .before .before .before .before .before .before .before .before .before .before .before in
     let q = c .before .before .before .before .if1 .taken in
-    let t : s .args .tainted ≡ true = cc in
+    let t : s .args .guarded ≡ true = cc in
     (c .before .before .before .before .before .before .before .move-up .ensures, rw t (c .before .before .move-up2 .ensures))
 
 same-length-3 : tie.Need-same-length-3

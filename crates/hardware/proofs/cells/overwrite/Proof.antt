@@ -40,8 +40,8 @@ part-clear-end : tie.Need-part-clear-end
 part-clear-end c =
     let s = c .before .before .before .before .before .before .before .before in
     let q = c .if1 .taken in
-    let t : s .args .tainted ≡ true = cc in
-    let l : length (s .args .taints .now) ≡ length (s .args .numbers .now) = s .pre .1 t in
+    let t : s .args .guarded ≡ true = cc in
+    let l : length (s .args .marks .now) ≡ length (s .args .numbers .now) = s .pre .1 t in
     omega arith
 
 clear-requires : tie.Need-clear-requires
@@ -58,11 +58,11 @@ returns c =
     let s = c .before .before .before .before .before .before .before .before .before .before .before .before in
     let a = s .args in
     let q = c .before .before .before .before .if1 .taken in
-    let t : a .tainted ≡ true = cc in
-    let l : length (a .taints .now) ≡ length (a .numbers .now) = s .pre .1 t in
+    let t : a .guarded ≡ true = cc in
+    let l : length (a .marks .now) ≡ length (a .numbers .now) = s .pre .1 t in
     let e : a .at + length (a .values .now) - a .at ≡ length (a .values .now) = omega arith in (
       values-back (a .at) _ (a .values .now) (a .numbers .now) e (s .pre .0) _ (c .before .before .before .before .before .before .before .write-values .ensures),
-      rw t (zeros-back (a .at) _ (a .values .now) (a .taints .now) e (omega arith) _ (c .before .before .clear .ensures)),
+      rw t (zeros-back (a .at) _ (a .values .now) (a .marks .now) e (omega arith) _ (c .before .before .clear .ensures)),
     )
 
 same-length-3 : tie.Need-same-length-3
@@ -73,7 +73,7 @@ returns-2 c =
     let s = c .before .before .before .before .before .before .before .before in
     let a = s .args in
     let q = c .if1 .left in
-    let t : a .tainted ≡ false = cc in
+    let t : a .guarded ≡ false = cc in
     let e : a .at + length (a .values .now) - a .at ≡ length (a .values .now) = omega arith in
     (values-back (a .at) _ (a .values .now) (a .numbers .now) e (s .pre .0) _ (c .before .before .before .write-values .ensures), rw t)
 

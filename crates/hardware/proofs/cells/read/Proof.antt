@@ -1,4 +1,4 @@
--- `hardware::cells::read` meets its contract: number and taint stand where the address is found.
+-- `hardware::cells::read` meets its contract: number and mark stand where the address is found.
 use Prim.Native.Nat.{ℕ, _<_}
 use mathlib.Core.Path.{_≡_, sym, _∙_}
 use native.Mathlib.Omega.{arith}
@@ -6,7 +6,7 @@ use borrow.Author.Needs.{needs}
 use lib.ListN.{take}
 use Rattle.hardware.specs.declared.cells.Found.the-variants.{At}
 use Rattle.hardware.specs.Buffers.{foundOf}
-use Rattle.hardware.proofs.BufferLaws.{found-within, read-tainted, read-plain, read-absent}
+use Rattle.hardware.proofs.BufferLaws.{found-within, read-marked, read-plain, read-absent}
 use Rattle.hardware.proofs.cells.read.Statement.{statement}
 use Rattle.hardware.proofs.cells.read.Tie as tie
 
@@ -40,7 +40,7 @@ mul-t20 : tie.Need-mul-t20
 mul-t20 c = let f = c .before .before .before in omega (arith, place-used f, entry f .pre, entry f .good)
 
 shared-slice-read-t22 : tie.Need-shared-slice-read-t22
-shared-slice-read-t22 c = let f = c .before .before .before .before in omega (arith, place-used f, entry f .pre .taintLevel (c .before .if1 .taken), entry f .pre)
+shared-slice-read-t22 c = let f = c .before .before .before .before in omega (arith, place-used f, entry f .pre .markLevel (c .before .if1 .taken), entry f .pre)
 
 enum-told : tie.Need-enum-told
 enum-told c = search needs
@@ -49,14 +49,14 @@ returns : tie.Need-returns
 returns c =
     let f = c .before .before .before .before in
     let a = entry f .args in
-    read-tainted (a .tainted) (a .count) (a .addresses .now) (a .numbers .now) (a .taints .now) (entry f .pre) (a .address)
+    read-marked (a .guarded) (a .count) (a .addresses .now) (a .numbers .now) (a .marks .now) (entry f .pre) (a .address)
     (place f) (at-place f) (c .before .if1 .taken)
 
 returns-2 : tie.Need-returns-2
 returns-2 c =
     let f = c .before .before .before in
     let a = entry f .args in
-    read-plain (a .tainted) (a .count) (a .addresses .now) (a .numbers .now) (a .taints .now) (entry f .pre) (a .address)
+    read-plain (a .guarded) (a .count) (a .addresses .now) (a .numbers .now) (a .marks .now) (entry f .pre) (a .address)
     (place f) (at-place f) (c .if1 .left)
 
 returns-3 : tie.Need-returns-3
@@ -64,7 +64,7 @@ returns-3 c =
     let s = c .before .before .before .before .before .before in
     let a = s .args in
     let f = c .enum-told .given in
-    read-absent (a .tainted) (a .count) (a .addresses .now) (a .numbers .now) (a .taints .now) (s .pre) (a .address)
+    read-absent (a .guarded) (a .count) (a .addresses .now) (a .numbers .now) (a .marks .now) (s .pre) (a .address)
     (f .0 .0) (sym (c .before .before .find .ensures) ∙ f .1)
 
 pub read-spec : {M : Type 1} → statement M

@@ -38,7 +38,7 @@ overwrite-requires c κs =
     let o = s .pre .0 in
     let f = span-at _ (a .start) (length (a .values .now)) _ (sym (c .before .before .before .before .before .find-span .ensures) ∙ c .before .before .before .at .given .1) in
     let w = span-ends (a .count) (a .addresses .now) (o .addresses) (a .start) _ (f .1) (length (a .values .now)) (f .0) in
-    (omega (arith, w, o .addresses .within, o .level), λ t. o .taintLevel t ∙ sym (o .level))
+    (omega (arith, w, o .addresses .within, o .level), λ t. o .markLevel t ∙ sym (o .level))
 
 enum-told : tie.Need-enum-told
 enum-told c = search needs
@@ -66,7 +66,7 @@ overwrite-requires-2 c κs =
     let o = s .pre .0 in
     let l = c .before .before .before .before .before .before .before .before .before .before .before .before .rank-of .ensures in
     let r = room (a .count) (a .addresses .now) (o .addresses) (a .start) (length (a .values .now)) _ _ l refl (fits s) in
-    (omega (arith, o .level), λ t. omega (arith, o .level, o .taintLevel t))
+    (omega (arith, o .level), λ t. omega (arith, o .level, o .markLevel t))
 
 same-length : tie.Need-same-length
 same-length c = search needs
@@ -83,7 +83,7 @@ returns c =
     let a = s .args in
     let f = span-at _ (a .start) (length (a .values .now)) _ (sym (c .before .before .before .before .before .before .before .before .before .before .find-span .ensures) ∙ c .before .before .before .before .before .before .before .before .at .given .1) in
     let w = c .before .before .before .before .overwrite .ensures in
-    overwritten-holds (a .tainted) (a .count) (a .addresses .now) (a .numbers .now) (a .taints .now) (s .pre .0) (a .start) _ (f .1) (a .values .now) (f .0) _ _ (w .0) (w .1)
+    overwritten-holds (a .guarded) (a .count) (a .addresses .now) (a .numbers .now) (a .marks .now) (s .pre .0) (a .start) _ (f .1) (a .values .now) (f .0) _ _ (w .0) (w .1)
 
 same-length-4 : tie.Need-same-length-4
 same-length-4 c = search needs
@@ -101,7 +101,7 @@ returns-2 c =
     let m = c .before .before .before .before .before .before .before .before .before .before .before .before .before .make-room .ensures in
     let w = c .before .before .before .before .overwrite2 .ensures in
     let l = c .before .before .before .before .before .before .before .before .before .before .before .before .before .before .before .before .before .rank-of .ensures in
-    room-holds (a .tainted) (a .count) (a .addresses .now) (a .numbers .now) (a .taints .now) (s .pre .0) (a .start) (a .values .now) _ l (fits s)
+    room-holds (a .guarded) (a .count) (a .addresses .now) (a .numbers .now) (a .marks .now) (s .pre .0) (a .start) (a .values .now) _ l (fits s)
     _ _ _ _ _ _ (m .0) (m .1 .0) (m .1 .1 .0) (m .1 .1 .1) (w .0) (w .1)
 
 pub store-many-spec : {M : Type 1} → statement M

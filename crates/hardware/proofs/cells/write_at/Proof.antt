@@ -1,4 +1,4 @@
--- `hardware::cells::write_at` meets its contract: the number is set, and in a tainted run the taint.
+-- `hardware::cells::write_at` meets its contract: the number is set, and in a guarded run the mark.
 use mathlib.Core.Path.{_≡_, refl}
 use mathlib.Core.Bool.{true}
 use native.Mathlib.Omega.{arith}
@@ -12,14 +12,14 @@ mul-numbers c = search needs
 slice-write-numbers : tie.Need-slice-write-numbers
 slice-write-numbers c = omega arith
 
-cast-taints : tie.Need-cast-taints
-cast-taints c = search needs
+cast-marks : tie.Need-cast-marks
+cast-marks c = search needs
 
-mul-taints : tie.Need-mul-taints
-mul-taints c = search needs
+mul-marks : tie.Need-mul-marks
+mul-marks c = search needs
 
-slice-write-taints : tie.Need-slice-write-taints
-slice-write-taints c = c .before .pre .1 (c .if1 .taken)
+slice-write-marks : tie.Need-slice-write-marks
+slice-write-marks c = c .before .pre .1 (c .if1 .taken)
 
 same-length : tie.Need-same-length
 same-length c = search needs
@@ -30,7 +30,7 @@ same-length-2 c = search needs
 returns : tie.Need-returns
 returns c =
     let q = c .if1 .taken in
-    let t : c .before .args .tainted ≡ true = cc in
+    let t : c .before .args .guarded ≡ true = cc in
     (refl, rw t)
 
 same-length-3 : tie.Need-same-length-3
@@ -45,9 +45,9 @@ write-at-spec =
     (tie.spec
     mul-numbers
     slice-write-numbers
-    cast-taints
-    mul-taints
-    slice-write-taints
+    cast-marks
+    mul-marks
+    slice-write-marks
     same-length
     same-length-2
     returns

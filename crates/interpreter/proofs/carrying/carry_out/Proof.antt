@@ -20,11 +20,11 @@ use Rattle.interpreter.proofs.carrying.carry_out.Tie as tie
 abbrev core : ℕ → tie.Start → Core
 core clk s =
     let a = s .args in
-    coreOf (a .mode) (take 10 (a .values .now)) (a .pc) clk (a .counts) (a .addresses .now) (a .numbers .now) (a .taints .now) (a .tape .now)
+    coreOf (a .mode) (take 10 (a .values .now)) (a .pc) clk (a .counts) (a .addresses .now) (a .numbers .now) (a .marks .now) (a .tape .now)
     (a .output .now)
 
 abbrev effect : tie.Start → Effect
-effect s = meant (s .args .taint) (s .args .action)
+effect s = meant (s .args .mark) (s .args .action)
 
 can : (clk : ℕ) (s : tie.Start) → Applies (effect s) (core clk s)
 can clk s = applies clk (s .pre .1 .1)
@@ -48,7 +48,7 @@ placed-by l a e p = subst (λ (k : Kind). placedBy k l a) e p
 register-below : (c : tie.After-enum-told) → start (c .before .before) .args .action .place < 10
 register-below c =
     let s = start (c .before .before) in
-    let e = meant-by (s .args .taint) (s .args .action) (c .enum-told .given .1) in
+    let e = meant-by (s .args .mark) (s .args .action) (c .enum-told .given .1) in
     register-named (core 0 s) (s .args .storage-addr) (effect s) (can 0 s) _ _ _ _ e
 
 enum-told : tie.Need-enum-told
@@ -60,8 +60,8 @@ mul-values c = omega (arith, register-below c)
 slice-write-values : tie.Need-slice-write-values
 slice-write-values c = let s = start (c .before .before) in omega (arith, register-below c, s .pre .0)
 
-taints-after-requires : tie.Need-taints-after-requires
-taints-after-requires c κs = let s = start (c .before .before .before) in (s .pre .1 .1 .ready .registerTaints, register-below (c .before))
+marks-after-requires : tie.Need-marks-after-requires
+marks-after-requires c κs = let s = start (c .before .before .before) in (s .pre .1 .1 .ready .registerMarks, register-below (c .before))
 
 enum-told-2 : tie.Need-enum-told-2
 enum-told-2 c = search needs
@@ -80,7 +80,7 @@ insert-requires : tie.Need-insert-requires
 insert-requires c κs =
     let t = c .before .before .before in
     let s = start (t .before .before) in
-    let e = meant-by (s .args .taint) (s .args .action) (t .enum-told3 .given .1) in
+    let e = meant-by (s .args .mark) (s .args .action) (t .enum-told3 .given .1) in
     let f = placed-by _ (s .args .action) (t .enum-told3 .given .1) (s .pre .1 .0) in
     insert-asks (core 0 s) (s .args .storage-addr) (effect s) (can 0 s) _ _ _ _ _ e f
 
@@ -88,7 +88,7 @@ add-cells : tie.Need-add-cells
 add-cells c =
     let t = c .before .before .before .before .before .before .before .before .before .before .before in
     let s = start (t .before .before) in
-    let e = meant-by (s .args .taint) (s .args .action) (t .enum-told3 .given .1) in
+    let e = meant-by (s .args .mark) (s .args .action) (t .enum-told3 .given .1) in
     let f = placed-by _ (s .args .action) (t .enum-told3 .given .1) (s .pre .1 .0) in
     omega (arith, insert-asks (core 0 s) (s .args .storage-addr) (effect s) (can 0 s) _ _ _ _ _ e f .1 .0, s .good)
 
@@ -102,7 +102,7 @@ load-tape-requires : tie.Need-load-tape-requires
 load-tape-requires c κs =
     let t = c .before .before .before .before in
     let s = start (t .before .before) in
-    let e = meant-by (s .args .taint) (s .args .action) (t .enum-told5 .given .1) in
+    let e = meant-by (s .args .mark) (s .args .action) (t .enum-told5 .given .1) in
     load-asks (core 0 s) (s .args .storage-addr) (effect s) (can 0 s) _ _ _ _ e
 
 enum-told-6 : tie.Need-enum-told-6
@@ -112,28 +112,28 @@ append-numbers-requires : tie.Need-append-numbers-requires
 append-numbers-requires c κs =
     let t = c .before .before in
     let s = start (t .before .before) in
-    let e = meant-by (s .args .taint) (s .args .action) (t .enum-told6 .given .1) in
+    let e = meant-by (s .args .mark) (s .args .action) (t .enum-told6 .given .1) in
     tape-asks (core 0 s) (s .args .storage-addr) (effect s) (can 0 s) _ _ _ e
 
 append-numbers-requires-2 : tie.Need-append-numbers-requires-2
 append-numbers-requires-2 c κs =
     let t = c .before .before .before .before .before .before .before in
     let s = start (t .before .before) in
-    let e = meant-by (s .args .taint) (s .args .action) (t .enum-told6 .given .1) in
+    let e = meant-by (s .args .mark) (s .args .action) (t .enum-told6 .given .1) in
     output-asks (core 0 s) (s .args .storage-addr) (effect s) (can 0 s) _ _ _ e
 
 add-tape-count : tie.Need-add-tape-count
 add-tape-count c =
     let t = c .before .before .before .before .before .before .before .before .before .before .before in
     let s = start (t .before .before) in
-    let e = meant-by (s .args .taint) (s .args .action) (t .enum-told6 .given .1) in
+    let e = meant-by (s .args .mark) (s .args .action) (t .enum-told6 .given .1) in
     omega (arith, tape-asks (core 0 s) (s .args .storage-addr) (effect s) (can 0 s) _ _ _ e .1, s .good)
 
 add-output-count : tie.Need-add-output-count
 add-output-count c =
     let t = c .before .before .before .before .before .before .before .before .before .before .before .before in
     let s = start (t .before .before) in
-    let e = meant-by (s .args .taint) (s .args .action) (t .enum-told6 .given .1) in
+    let e = meant-by (s .args .mark) (s .args .action) (t .enum-told6 .given .1) in
     omega (arith, output-asks (core 0 s) (s .args .storage-addr) (effect s) (can 0 s) _ _ _ e .1, s .good)
 
 enum-told-7 : tie.Need-enum-told-7
@@ -143,14 +143,14 @@ call-contract-requires : tie.Need-call-contract-requires
 call-contract-requires c κs =
     let t = c .before .before in
     let s = start (t .before .before) in
-    let e = meant-by (s .args .taint) (s .args .action) (t .enum-told7 .given .1) in
+    let e = meant-by (s .args .mark) (s .args .action) (t .enum-told7 .given .1) in
     call-asks (core 0 s) (s .args .storage-addr) (effect s) (can 0 s) _ _ _ e
 
 add-tape-count-2 : tie.Need-add-tape-count-2
 add-tape-count-2 c =
     let t = c .before .before .before .before .before .before in
     let s = start (t .before .before) in
-    let e = meant-by (s .args .taint) (s .args .action) (t .enum-told7 .given .1) in
+    let e = meant-by (s .args .mark) (s .args .action) (t .enum-told7 .given .1) in
     omega (arith, call-asks (core 0 s) (s .args .storage-addr) (effect s) (can 0 s) _ _ _ e .1, s .good)
 
 enum-told-8 : tie.Need-enum-told-8
@@ -169,10 +169,10 @@ returns : tie.Need-returns
 returns c =
     let t = c .before .before in
     let s = start (t .before .before) in
-    let e = meant-by (s .args .taint) (s .args .action) (t .enum-told .given .1) in
+    let e = meant-by (s .args .mark) (s .args .action) (t .enum-told .given .1) in
     let r = register-below t in
     let g = take-set-lt 10 (s .args .values .now) _ _ r in (
-      λ clk. sets-register (core clk s) (s .args .storage-addr) (effect s) (can clk s) _ _ _ _ _ _ e g (c .taints-after .ensures),
+      λ clk. sets-register (core clk s) (s .args .storage-addr) (effect s) (can clk s) _ _ _ _ _ _ e g (c .marks-after .ensures),
       (length-set (s .args .values .now) _ _, drop-set-lt 10 (s .args .values .now) _ _ r),
     )
 
@@ -186,7 +186,7 @@ returns-2 : tie.Need-returns-2
 returns-2 c =
     let t = c .before .before .before .before .before .before .before in
     let s = start (t .before .before) in
-    let e = meant-by (s .args .taint) (s .args .action) (t .enum-told2 .given .1) in
+    let e = meant-by (s .args .mark) (s .args .action) (t .enum-told2 .given .1) in
     let f = placed-by _ (s .args .action) (t .enum-told2 .given .1) (s .pre .1 .0) in
     let w = c .before .before .before .before .write-at .ensures in
     (λ clk. writes-cell (core clk s) (s .args .storage-addr) (effect s) (can clk s) _ _ _ _ _ _ _ e f (w .0) (w .1), (refl, refl))
@@ -204,14 +204,14 @@ returns-3 : tie.Need-returns-3
 returns-3 c =
     let t = c .before .before .before .before .before .before .before .before .before .before .before in
     let s = start (t .before .before) in
-    let e = meant-by (s .args .taint) (s .args .action) (t .enum-told3 .given .1) in
+    let e = meant-by (s .args .mark) (s .args .action) (t .enum-told3 .given .1) in
     let w = c .before .before .before .before .before .before .before .insert .ensures in
     (λ clk. stores-cell (core clk s) (s .args .storage-addr) (effect s) (can clk s) _ _ _ _ _ _ _ _ e w, (refl, refl))
 
 returns-4 : tie.Need-returns-4
 returns-4 c =
     let s = start (c .before .before) in
-    let e = meant-by (s .args .taint) (s .args .action) (c .enum-told4 .given .1) in
+    let e = meant-by (s .args .mark) (s .args .action) (c .enum-told4 .given .1) in
     (λ clk. jumps (core clk s) (s .args .storage-addr) (effect s) (can clk s) _ e, (refl, refl))
 
 same-length-7 : tie.Need-same-length-7
@@ -230,7 +230,7 @@ returns-5 : tie.Need-returns-5
 returns-5 c =
     let t = c .before .before .before .before .before .before .before .before .before .before .before in
     let s = start (t .before .before) in
-    let e = meant-by (s .args .taint) (s .args .action) (t .enum-told5 .given .1) in
+    let e = meant-by (s .args .mark) (s .args .action) (t .enum-told5 .given .1) in
     let w = c .before .before .before .before .before .before .load-tape .ensures in
     (λ clk. loads-tape (core clk s) (s .args .storage-addr) (effect s) (can clk s) _ _ _ _ _ _ _ _ e w, (refl, refl))
 
@@ -247,7 +247,7 @@ returns-6 : tie.Need-returns-6
 returns-6 c =
     let t = c .before .before .before .before .before .before .before .before .before .before .before .before in
     let s = start (t .before .before) in
-    let e = meant-by (s .args .taint) (s .args .action) (t .enum-told6 .given .1) in
+    let e = meant-by (s .args .mark) (s .args .action) (t .enum-told6 .given .1) in
     let w = c .before .before .before .before .before .before .before .before .before .append-numbers .ensures in
     let o = c .before .before .before .before .append-numbers2 .ensures in
     (λ clk. stores-tape (core clk s) (s .args .storage-addr) (effect s) (can clk s) _ _ _ _ _ e w o, (refl, refl))
@@ -262,27 +262,27 @@ returns-7 : tie.Need-returns-7
 returns-7 c =
     let t = c .before .before .before .before .before .before in
     let s = start (t .before .before) in
-    let e = meant-by (s .args .taint) (s .args .action) (t .enum-told7 .given .1) in
+    let e = meant-by (s .args .mark) (s .args .action) (t .enum-told7 .given .1) in
     let w = c .before .before .before .call-contract .ensures in
     (λ clk. calls-contract (core clk s) (s .args .storage-addr) (effect s) (can clk s) (four s) _ _ _ _ _ e (w .0) (w .1), (refl, refl))
 
 returns-8 : tie.Need-returns-8
 returns-8 c =
     let s = start (c .before .before) in
-    let e = meant-by (s .args .taint) (s .args .action) (c .enum-told8 .given .1) in
+    let e = meant-by (s .args .mark) (s .args .action) (c .enum-told8 .given .1) in
     (λ clk. ends-run (core clk s) (s .args .storage-addr) (effect s) (can clk s) _ e, (refl, refl))
 
 returns-9 : tie.Need-returns-9
 returns-9 c =
     let t = c .before in
     let s = start (t .before .before) in
-    let e = meant-by (s .args .taint) (s .args .action) (t .kind .given .1) in
+    let e = meant-by (s .args .mark) (s .args .action) (t .kind .given .1) in
     (λ clk. refuses-step (core clk s) (s .args .storage-addr) (effect s) (can clk s) _ e, (refl, refl))
 
 returns-10 : tie.Need-returns-10
 returns-10 c =
     let s = start (c .before .before) in
-    let e = meant-by (s .args .taint) (s .args .action) (c .enum-told9 .given .1) in
+    let e = meant-by (s .args .mark) (s .args .action) (c .enum-told9 .given .1) in
     (λ clk. sinks (core clk s) (s .args .storage-addr) (effect s) (can clk s) e, (refl, refl))
 
 pub carry-out-spec : {M : Type 1} → statement M
@@ -292,7 +292,7 @@ carry-out-spec =
     enum-told
     mul-values
     slice-write-values
-    taints-after-requires
+    marks-after-requires
     enum-told-2
     write-at-requires
     enum-told-3

@@ -4,10 +4,10 @@ use Rattle.transcript.proofs.runs.run.Statement.{statement}
 use Rattle.transcript.proofs.runs.run.Tie as tie
 
 abbrev Inv-loop : tie.InvT-loop
-Inv-loop entry «is_tainted» budget most text start shown₀ fields₀ next₀ left₀ shown fields next left = Unit {0}
+Inv-loop entry «is_marked» budget most text start shown₀ fields₀ next₀ left₀ shown fields next left = Unit {0}
 
 abbrev μ-loop : tie.MeasureT-loop
-μ-loop entry «is_tainted» budget most text start shown₀ fields₀ next₀ left₀ shown fields next left = left
+μ-loop entry «is_marked» budget most text start shown₀ fields₀ next₀ left₀ shown fields next left = left
 
 returns : tie.Need-returns Inv-loop μ-loop
 returns c = search needs

@@ -1,0 +1,43 @@
+// Marks as a step looks at them: in a plain run nothing is marked.
+use crate::Mode;
+use hardware::cells;
+use operands::marks;
+use program::table::Row;
+ghost use mathlib.Core.Path.{_≡_};
+ghost use mathlib.Core.Bool.{true};
+ghost use Prim.Native.Nat.{_+_, _≤_};
+ghost use lib.ListN.{length};
+ghost use Rattle.effects.specs.Deciding.{stopsAtOperands, sourcesMarked, Clean};
+ghost use Rattle.effects.specs.Operations.{partMark};
+
+// Is a register marked at which a step stops right after its operands, in a guarded run?
+pub fn is_operand_sink(mode: Mode, rows: &[u16], row: Row) -> bool
+    requires { ⌜ row .at + 8 ≤ length (now rows) ⌝ }
+    ensures { λ r. ⌜ r ≡ stopsAtOperands mode (now (rows .entry)) row ⌝ }
+{
+    if !mode.guarded {
+        return false;
+    }
+    marks::is_any(mode.register_marks, row.sinks(rows))
+}
+
+// Is a register marked that a step's number is made of? No test of the mode here, between a step's decision and its writing: in a plain
+// run no register is marked.
+pub fn is_source_marked(mode: Mode, rows: &[u16], row: Row) -> bool
+    requires { ⌜ row .at + 8 ≤ length (now rows) ⌝ }
+    requires { ⌜ Clean mode ⌝ }
+    ensures { λ r. ⌜ r ≡ sourcesMarked mode (now (rows .entry)) row ⌝ }
+{
+    marks::is_any(mode.register_marks, row.sources(rows))
+}
+
+// Is one of the n cells from a place on marked, in a guarded run?
+pub fn is_part_marked(guarded: bool, marks: &[u64], at: usize, n: usize) -> bool
+    requires { ⌜ (guarded ≡ true → at + n ≤ length (now marks)) ⌝ }
+    ensures { λ r. ⌜ r ≡ partMark guarded (now (marks .entry)) at n ⌝ }
+{
+    if !guarded {
+        return false;
+    }
+    cells::any_marked(marks, at, n)
+}

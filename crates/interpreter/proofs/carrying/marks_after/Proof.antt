@@ -1,0 +1,19 @@
+-- `interpreter::carrying::marks_after` meets its contract.
+use Rattle.interpreter.specs.Steps.{marksAfter}
+use borrow.Author.Needs.{needs}
+use Rattle.interpreter.proofs.carrying.marks_after.Statement.{statement}
+use Rattle.interpreter.proofs.carrying.marks_after.Tie as tie
+
+with-mark-requires : tie.Need-with-mark-requires
+with-mark-requires c κs = search needs
+
+returns : tie.Need-returns
+unfolding marksAfter
+returns c = rw (c .before .if1 .taken) (c .with-mark .ensures .0)
+
+returns-2 : tie.Need-returns-2
+unfolding marksAfter
+returns-2 c = rw (c .if1 .left)
+
+pub marks-after-spec : {M : Type 1} → statement M
+marks-after-spec = tie.close (tie.spec with-mark-requires returns returns-2)

@@ -1,0 +1,27 @@
+// The marks of registers: bit r of a word is the mark of register r.
+ghost use mathlib.Core.Path.{_≡_};
+ghost use Prim.Native.Nat.{_<_};
+ghost use lib.ListN.{set};
+ghost use Rattle.rules.specs.Entry.{lowBits, wordOfBits};
+ghost use Rattle.program.specs.Rows.{isAny};
+
+// Is one of a set's registers marked?
+pub fn is_any(marks: u64, registers: u64) -> bool
+    ensures { λ r. ⌜ r ≡ isAny marks registers ⌝ }
+{
+    marks & registers != 0
+}
+
+// The marks after a register was written.
+pub fn with_mark(marks: u64, register: usize, mark: bool) -> u64
+    requires { ⌜ marks < 1024 ⌝ }
+    requires { ⌜ register < 10 ⌝ }
+    ensures { λ r. ⌜ (r ≡ wordOfBits (set (lowBits 10 marks) register mark)) × (r < 1024) ⌝ }
+{
+    let bit = 1 << register;
+    if mark {
+        marks | bit
+    } else {
+        marks - (marks & bit)
+    }
+}

@@ -1,0 +1,229 @@
+-- Two guarded runs from states that differ in marked numbers alone: each step of the one is a step of the other.
+use Prim.Native.Nat.{ℕ, zero, suc, _<_}
+use mathlib.Core.Path.{_≡_, refl, ap, subst}
+use mathlib.Core.Bool.{Bool, true, false}
+use Rattle.rules.specs.declared.OlaOpcode.{OlaOpcode}
+use Rattle.rules.specs.declared.OlaOpcode.the-variants as O
+use Rattle.rules.specs.declared.Instruction.{Instruction}
+use Rattle.rules.specs.declared.Refusal.the-variants.{NoCapacity}
+use Rattle.rules.specs.Numbers.{p}
+use Rattle.rules.specs.Results.{GuardedResult, passes, after, guard}
+use Rattle.rules.specs.Cells.{count, cells}
+use Rattle.rules.specs.Opcodes.{Class, field, equality, small, complement, move, assert, rangeCheck, jump, conditionalJump, call, return, load, store, tapeLoad, tapeStore, contractCall, end, uncovered, classOf}
+use Rattle.rules.specs.Operands.{fetch, wantsOf, Operands, operands}
+use Rattle.rules.specs.Step.{Environment, State, Next, fits, capacity, Ran}
+use Rattle.rules.specs.Guarded.{operandMark, sinksOf, operandSink, MarkState, readSink, marksAfter, GuardedState, GuardedNext, guardedRest, guardedStep, onGuardedStep, guardedRun}
+use Rattle.rules.specs.Relations.{passed, BothGuarded, refused-alike, sink-alike, passed-alike, BothRan}
+use Rattle.rules.proofs.Relational.{both-equal, both-require, both-after, both-finish}
+use Rattle.rules.proofs.BoolLaws.{or-left, or-right, or-equal}
+use Rattle.rules.proofs.AlikeStates.{StatesRelated, NextRelated, mod-below, unmarked, cells-count}
+use Rattle.rules.proofs.AlikeSteps.{
+  OperandsRelated,
+  operands-read,
+  Agreed,
+  operands-equal,
+  on-field,
+  on-equality,
+  on-small,
+  on-complement,
+  on-move,
+  on-assert,
+  on-range,
+  on-jump,
+  on-conditional,
+  on-call,
+  on-return,
+  on-load,
+  on-store,
+  on-tape-load,
+  on-tape-store,
+  on-contract-call,
+  on-end,
+  on-uncovered,
+}
+
+-- the field operations stay below p
+abbrev Bounded : Class → Type 0
+Bounded (field f) = (a b : ℕ) → f a b < p
+Bounded (equality f) = Unit {0}
+Bounded (small f) = Unit {0}
+Bounded complement = Unit {0}
+Bounded move = Unit {0}
+Bounded assert = Unit {0}
+Bounded rangeCheck = Unit {0}
+Bounded jump = Unit {0}
+Bounded conditionalJump = Unit {0}
+Bounded call = Unit {0}
+Bounded return = Unit {0}
+Bounded load = Unit {0}
+Bounded store = Unit {0}
+Bounded tapeLoad = Unit {0}
+Bounded tapeStore = Unit {0}
+Bounded contractCall = Unit {0}
+Bounded end = Unit {0}
+Bounded uncovered = Unit {0}
+
+bounded : (o : OlaOpcode) → Bounded (classOf o)
+unfolding classOf
+bounded O.Add = λ a b. mod-below _
+bounded O.Mul = λ a b. mod-below _
+bounded O.Eq = tt
+bounded O.Assert = tt
+bounded O.Mov = tt
+bounded O.Jmp = tt
+bounded O.Cjmp = tt
+bounded O.Call = tt
+bounded O.Ret = tt
+bounded O.Mload = tt
+bounded O.Mstore = tt
+bounded O.End = tt
+bounded O.Rc = tt
+bounded O.And = tt
+bounded O.Or = tt
+bounded O.Xor = tt
+bounded O.Not = tt
+bounded O.Neq = tt
+bounded O.Gte = tt
+bounded O.Poseidon = tt
+bounded O.Sload = tt
+bounded O.Sstore = tt
+bounded O.Tload = tt
+bounded O.Tstore = tt
+bounded O.Sccall = tt
+bounded O.Sigcheck = tt
+bounded O.Event = tt
+
+-- All classes: what the operands' sinks let through agrees
+
+module _ (e : Environment) (t : MarkState (cells ℕ)) (i : Instruction) {s u : State (cells ℕ)} (n : StatesRelated t s u) where
+  abbrev marked0 : Bool
+  marked0 = operandMark (t .registers) (i .op0)
+
+  abbrev marked1 : Bool
+  marked1 = operandMark (t .registers) (i .op1)
+
+  -- of classes whose operands are all unmarked, both have the same operands
+  same-operands : (c : Class) {o q : Operands} → Agreed e t c i s u o o → o .op0 ≡ q .op0 → o .op1 ≡ q .op1 → o .dst ≡ q .dst → Agreed e t c i s u o q
+  same-operands c {o} h a b d = subst (Agreed e t c i s u o) (operands-equal a b d) h
+
+  agreed : (c : Class) → Bounded c → {o q : Operands} → OperandsRelated t c i o q → operandSink (t .registers) c i ≡ false → Agreed e t c i s u o q
+  unfolding operandSink sinksOf wantsOf
+  agreed (field f) l r k = on-field e t i n f l r
+  agreed (equality f) l r k = on-equality e t i n f r
+  agreed (small f) l {o} r k =
+      let a : marked0 ≡ false = or-left _ _ k in
+      let b : marked1 ≡ false = or-left _ _ (or-right marked0 _ k) in
+      same-operands (small f) (on-small e t i n f o (or-equal a b)) (unmarked a (r .op0)) (unmarked b (r .op1)) (unmarked refl (r .dst))
+  agreed complement l r k = on-complement e t i n r
+  agreed move l r k = on-move e t i n r
+  agreed assert l {o} r k =
+      same-operands assert (on-assert e t i n o) (unmarked refl (r .op0)) (unmarked (or-left _ _ k) (r .op1)) (unmarked refl (r .dst))
+  agreed rangeCheck l {o} r k =
+      same-operands rangeCheck (on-range e t i n o) (unmarked refl (r .op0)) (unmarked (or-left _ _ k) (r .op1)) (unmarked refl (r .dst))
+  agreed jump l {o} r k =
+      same-operands jump (on-jump e t i n o) (unmarked refl (r .op0)) (unmarked (or-left _ _ k) (r .op1)) (unmarked refl (r .dst))
+  agreed conditionalJump l {o} r k =
+      same-operands conditionalJump (on-conditional e t i n o) (unmarked (or-left _ _ k) (r .op0)) (unmarked refl (r .op1)) (unmarked refl (r .dst))
+  agreed call l {o} r k =
+      same-operands call (on-call e t i n o (or-right marked1 _ k)) (unmarked refl (r .op0)) (unmarked (or-left _ _ k) (r .op1)) (unmarked refl (r .dst))
+  agreed return l {o} r k =
+      same-operands return (on-return e t i n o k) (unmarked refl (r .op0)) (unmarked refl (r .op1)) (unmarked refl (r .dst))
+  agreed load l {o} r k =
+      let b : marked1 ≡ false = or-left _ _ (or-right marked0 _ k) in
+      same-operands load (on-load e t i n o) (unmarked (or-left _ _ k) (r .op0)) (unmarked b (r .op1)) (unmarked refl (r .dst))
+  agreed store l {o} r k =
+      let b : marked1 ≡ false = or-left _ _ (or-right marked0 _ k) in
+      same-operands store (on-store e t i n o) (unmarked (or-left _ _ k) (r .op0)) (unmarked b (r .op1)) (unmarked refl (r .dst))
+  agreed tapeLoad l {o} r k =
+      let b : marked1 ≡ false = or-left _ _ (or-right marked0 _ k) in
+      let d : operandMark (t .registers) (i .dst) ≡ false = or-left _ _ (or-right marked1 _ (or-right marked0 _ k)) in
+      same-operands tapeLoad (on-tape-load e t i n o) (unmarked (or-left _ _ k) (r .op0)) (unmarked b (r .op1)) (unmarked d (r .dst))
+  agreed tapeStore l {o} r k =
+      let b : marked1 ≡ false = or-left _ _ (or-right marked0 _ k) in
+      same-operands tapeStore (on-tape-store e t i n o) (unmarked (or-left _ _ k) (r .op0)) (unmarked b (r .op1)) (unmarked refl (r .dst))
+  agreed contractCall l {o} r k =
+      let b : marked1 ≡ false = or-left _ _ (or-right marked0 _ k) in
+      same-operands contractCall (on-contract-call e t i n o) (unmarked (or-left _ _ k) (r .op0)) (unmarked b (r .op1)) (unmarked refl (r .dst))
+  agreed end l {o} r k =
+      same-operands end (on-end e t i n o) (unmarked refl (r .op0)) (unmarked refl (r .op1)) (unmarked refl (r .dst))
+  agreed uncovered l {o} r k =
+      same-operands uncovered (on-uncovered e t i n o) (unmarked refl (r .op0)) (unmarked refl (r .op1)) (unmarked refl (r .dst))
+
+-- A whole guarded step of two related states with the same marks
+
+pub record GuardedRelated (q r : GuardedState (cells ℕ)) : Type 0 where
+  pub marks : q .marks ≡ r .marks
+  pub plain : StatesRelated (q .marks) (q .plain) (r .plain)
+
+pub record GuardedNextRelated (a b : GuardedNext (cells ℕ)) : Type 0 where
+  pub marks : a .marks ≡ b .marks
+  pub next : NextRelated (a .marks) (a .next) (b .next)
+
+fits-alike : (e : Environment) {t : MarkState (cells ℕ)} {a b : State (cells ℕ)} → StatesRelated t a b → fits (cells ℕ) e a ≡ fits (cells ℕ) e b
+fits-alike e {a = a} {b} n =
+    let x : count (a .cells) ≡ count (b .cells) = cells-count (n .cells) in
+    let y : a .tape ≡ b .tape = n .tape in
+    let z : a .output ≡ b .output = n .output in
+    rw (x, y, z)
+
+-- past the sinks of what was read
+last-stage : (e : Environment) (c : Bool) (t : MarkState (cells ℕ)) {a b : Next (cells ℕ)} → (c ≡ false → NextRelated t a b)
+    → BothGuarded GuardedNextRelated
+    (guard c (after (capacity (cells ℕ) e a) λ n. passes (record { next = n; marks = t })))
+    (guard c (after (capacity (cells ℕ) e b) λ n. passes (record { next = n; marks = t })))
+unfolding guard
+last-stage e true t h = sink-alike
+last-stage e false t h =
+    both-after _ _ (both-require NoCapacity (fits-alike e (h refl .state)) (passed (h refl))) λ a b r.
+    passed-alike (record { marks = refl; next = r })
+
+module _ (e : Environment) (t : MarkState (cells ℕ)) {s u : State (cells ℕ)} (n : StatesRelated t s u) (i : Instruction) (c : Class) (l : Bounded c) {o q : Operands} (r : OperandsRelated t c i o q) where
+  rest-stage : Agreed e t c i s u o q → BothGuarded GuardedNextRelated (guardedRest (cells ℕ) e t c i s o) (guardedRest (cells ℕ) e t c i u q)
+  unfolding guardedRest
+  rest-stage d =
+      both-after _ _ (d .next) λ a b h.
+      rw (← (d .sinks), ← (d .marks)) (last-stage e (readSink (cells ℕ) t c i s o) (marksAfter (cells ℕ) t c i s o) h)
+
+  sink-stage : (b : Bool) → operandSink (t .registers) c i ≡ b
+      → BothGuarded GuardedNextRelated (guard b (guardedRest (cells ℕ) e t c i s o)) (guard b (guardedRest (cells ℕ) e t c i u q))
+  unfolding guard
+  sink-stage true k = sink-alike
+  sink-stage false k = rest-stage (agreed e t i n c l r k)
+
+step-agrees : (e : Environment) (t : MarkState (cells ℕ)) {s u : State (cells ℕ)} → StatesRelated t s u
+    → BothGuarded GuardedNextRelated (guardedStep (cells ℕ) e (record { plain = s; marks = t })) (guardedStep (cells ℕ) e (record { plain = u; marks = t }))
+unfolding guardedStep
+step-agrees e t {s} {u} n =
+    both-after _ _ (both-equal (ap (fetch (e .program)) (n .pc))) λ i j k.
+    subst (λ j. BothGuarded GuardedNextRelated (now s i) (now u j)) k
+    (both-after _ _ (operands-read (e .psp) t (classOf (i .opcode)) i n) λ o q r.
+    sink-stage e t n i (classOf (i .opcode)) (bounded (i .opcode)) r (operandSink (t .registers) (classOf (i .opcode)) i) refl)
+  where
+    now : State (cells ℕ) → Instruction → GuardedResult (GuardedNext (cells ℕ))
+    now s i =
+        after (operands (e .psp) (s .registers) (classOf (i .opcode)) i) λ o.
+        guard (operandSink (t .registers) (classOf (i .opcode)) i) (guardedRest (cells ℕ) e t (classOf (i .opcode)) i s o)
+
+-- Whole runs
+
+abbrev at : State (cells ℕ) → MarkState (cells ℕ) → GuardedState (cells ℕ)
+at s t = record { plain = s; marks = t }
+
+go-on : (n : ℕ) (q r : GuardedState (cells ℕ)) (k : GuardedState (cells ℕ) → Ran (GuardedState (cells ℕ))) → GuardedRelated q r
+    → ((q r : GuardedState (cells ℕ)) → GuardedRelated q r → BothRan GuardedRelated (k q) (k r))
+    → {x y : GuardedResult (GuardedNext (cells ℕ))} → BothGuarded GuardedNextRelated x y
+    → BothRan GuardedRelated (onGuardedStep (cells ℕ) q x k) (onGuardedStep (cells ℕ) r y k)
+go-on n q r k h l refused-alike = record { answer = refl; steps = refl; state = h }
+go-on n q r k h l sink-alike = record { answer = refl; steps = refl; state = h }
+go-on n q r k h l (passed-alike {a} {b} x) =
+    let y : GuardedRelated (at (a .next .state) (a .marks)) (at (b .next .state) (b .marks)) = record { marks = x .marks; plain = x .next .state } in
+    both-finish GuardedRelated _ _ k k (x .next .finish) (x .next .state .clk) y (l _ _ y)
+
+pub run-agrees : (e : Environment) (n : ℕ) (q r : GuardedState (cells ℕ)) → GuardedRelated q r
+    → BothRan GuardedRelated (guardedRun (cells ℕ) e n q) (guardedRun (cells ℕ) e n r)
+unfolding guardedRun
+run-agrees e zero q r h = record { answer = refl; steps = refl; state = h }
+run-agrees e (suc n) q r h =
+    go-on n q r (guardedRun (cells ℕ) e n) h (run-agrees e n)
+    (subst (λ t. BothGuarded GuardedNextRelated (guardedStep (cells ℕ) e q) (guardedStep (cells ℕ) e (at (r .plain) t))) (h .marks)
+    (step-agrees e (q .marks) (h .plain)))
