@@ -12,7 +12,7 @@ use Rattle.rules.specs.declared.Refusal.the-variants as R
 use Rattle.rules.specs.Answers.{Meaning, refusalMeaning, meaning}
 use Rattle.report.specs.declared.label.Label.{Label}
 use Rattle.report.specs.declared.label.Label.the-variants as L
-use Rattle.report.specs.Lines.{Labels, outcome-label, refusal-label, frame-label}
+use Rattle.report.specs.ReportLines.{Labels, outcome-label, refusal-label, frame-label}
 use Rattle.capi.specs.Records.{machineOf, machineRecord, RecordsKept, calleeOf, answerRecord}
 
 -- n words from a place on

@@ -1,4 +1,4 @@
 -- Laws behind the proofs of the functions.
 pub mod OpcodeRows
 pub mod Described
-pub mod Fetched
+pub mod FetchedRows

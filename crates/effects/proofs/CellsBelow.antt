@@ -18,8 +18,8 @@ use Rattle.hardware.specs.Buffers.{rank, foundOf, cellsOf, Rising, Ordered}
 use Rattle.hardware.proofs.RankLaws.{rank-next}
 use Rattle.hardware.proofs.PlaceLaws.{found-at}
 use Rattle.hardware.proofs.BufferLaws.{found-present, found-other, found-end, get-found, get-absent}
-use Rattle.effects.specs.Actions.{SetRegister, Refuse}
-use Rattle.effects.specs.Effects.{onResult, sinkWhere, returnsFrom}
+use Rattle.effects.specs.Effects.{SetRegister, Refuse}
+use Rattle.effects.specs.Changes.{onResult, sinkWhere, returnsFrom}
 
 -- the place behind that of an address is the next address's
 module _ (n : ℕ) (xs : List ℕ) (o : Rising n xs) (a i b j : ℕ) (f : foundOf (take n xs) a ≡ Found.At i) (p : b ≡ suc a) (q : j ≡ suc i) where

@@ -1,4 +1,4 @@
--- For the crates above: the decided effect is the step of the rules and can be carried out; both runs are one run by a flag.
+-- For the crates above: the decided change is the step of the rules and can be carried out; both runs are one run by a flag.
 pub mod ReadValues
 pub mod Decisions
 pub mod Allowances
@@ -10,4 +10,4 @@ pub mod CellsBelow
 pub mod StoreTests
 pub mod Spans
 pub mod TapeParts
-pub mod BufferEffects
+pub mod BufferChanges

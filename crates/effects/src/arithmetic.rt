@@ -1,5 +1,5 @@
 // Numbers to a register: ADD, MUL and NOT in the field, EQ and NEQ, AND, OR, XOR and GTE of small operands, MOV.
-use crate::Action;
+use crate::Effect;
 use goldilocks::FieldElement;
 use rules::Refusal;
 ghost use mathlib.Core.Path.{_≡_};
@@ -7,38 +7,38 @@ ghost use mathlib.Core.List.{List};
 ghost use Prim.Native.Nat.{ℕ};
 ghost use Rattle.rules.specs.Numbers.{bit};
 ghost use Rattle.rules.specs.Step.{isSmall};
-ghost use Rattle.effects.specs.Actions.{SetRegister, Means};
-ghost use Rattle.effects.specs.Effects.{setsComplement, setsSmall};
+ghost use Rattle.effects.specs.Effects.{SetRegister, Means};
+ghost use Rattle.effects.specs.Changes.{setsComplement, setsSmall};
 ghost use Rattle.effects.specs.Operations.{setsElement};
 
 // AND, OR, XOR and GTE take operands below it, RC up to it.
 pub const SMALL_END: u64 = 0xFFFF_FFFF;
 
 // ADD and MUL, by their result.
-pub fn in_field(result: FieldElement, register: usize, next: u64) -> Action
+pub fn in_field(result: FieldElement, register: usize, next: u64) -> Effect
     ensures { λ r. ⌜ ((l : List ℕ) → Means l r (λ t. setsElement result register t next)) ⌝ }
 {
     let FieldElement::Element(x) = result else {
-        return Action::refuse(Refusal::NotInField);
+        return Effect::refuse(Refusal::NotInField);
     };
-    Action::set_register(register, x.value, false, next)
+    Effect::set_register(register, x.value, false, next)
 }
 
 // NOT.
-pub fn complement(a: u64, register: usize, next: u64) -> Action
+pub fn complement(a: u64, register: usize, next: u64) -> Effect
     ensures { λ r. ⌜ ((l : List ℕ) → Means l r (λ t. setsComplement a register t next)) ⌝ }
 {
     let FieldElement::Element(x) = goldilocks::complement(a) else {
-        return Action::refuse(Refusal::NotInField);
+        return Effect::refuse(Refusal::NotInField);
     };
-    Action::set_register(register, x.value, false, next)
+    Effect::set_register(register, x.value, false, next)
 }
 
 // EQ and NEQ, by their result.
-pub fn equality(result: bool, register: usize, next: u64) -> Action
+pub fn equality(result: bool, register: usize, next: u64) -> Effect
     ensures { λ r. ⌜ ((l : List ℕ) → Means l r (λ t. SetRegister register (bit result) t next)) ⌝ }
 {
-    Action::set_register(register, result as u64, false, next)
+    Effect::set_register(register, result as u64, false, next)
 }
 
 fn is_small(n: u64) -> bool
@@ -48,21 +48,21 @@ fn is_small(n: u64) -> bool
 }
 
 // AND, OR, XOR and GTE, by their operands and their result.
-pub fn small(a: u64, b: u64, result: u64, register: usize, next: u64) -> Action
+pub fn small(a: u64, b: u64, result: u64, register: usize, next: u64) -> Effect
     ensures { λ r. ⌜ ((l : List ℕ) → Means l r (λ t. setsSmall a b result register t next)) ⌝ }
 {
     if !is_small(a) {
-        return Action::refuse(Refusal::NotSmall);
+        return Effect::refuse(Refusal::NotSmall);
     }
     if !is_small(b) {
-        return Action::refuse(Refusal::NotSmall);
+        return Effect::refuse(Refusal::NotSmall);
     }
-    Action::set_register(register, result, false, next)
+    Effect::set_register(register, result, false, next)
 }
 
 // MOV.
-pub fn mov(a: u64, register: usize, next: u64) -> Action
+pub fn mov(a: u64, register: usize, next: u64) -> Effect
     ensures { λ r. ⌜ ((l : List ℕ) → Means l r (λ t. SetRegister register a t next)) ⌝ }
 {
-    Action::set_register(register, a, false, next)
+    Effect::set_register(register, a, false, next)
 }

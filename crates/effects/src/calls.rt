@@ -1,5 +1,5 @@
 // CALL and RET: the frame below R9.
-use crate::Action;
+use crate::Effect;
 use crate::memory;
 use hardware::cells;
 use hardware::cells::Found;
@@ -8,17 +8,17 @@ ghost use mathlib.Core.List.{List};
 ghost use Prim.Native.Nat.{ℕ, _-_};
 ghost use lib.ListN.{take};
 ghost use Rattle.hardware.specs.Buffers.{cellsOf, Rising, Ordered};
-ghost use Rattle.effects.specs.Actions.{Means};
-ghost use Rattle.effects.specs.Effects.{returnsFrom};
+ghost use Rattle.effects.specs.Effects.{Means};
+ghost use Rattle.effects.specs.Changes.{returnsFrom};
 ghost use Rattle.effects.specs.Operations.{withMark, hasCapacity, callsWhere};
 
 // CALL: the next pc goes below R9.
-pub fn call(frame: u64, addresses: &[u64], count: usize, target: u64, next: u64) -> Action
+pub fn call(frame: u64, addresses: &[u64], count: usize, target: u64, next: u64) -> Effect
     requires { ⌜ Rising count (now addresses) ⌝ }
     ensures { λ r. ⌜ Means (take count (now (addresses .entry))) r (λ t. callsWhere (hasCapacity (now (addresses .entry)) count (frame - 1) 1) frame next t target) ⌝ }
 {
     if frame == 0 {
-        return Action::refuse(Refusal::StoreFault);
+        return Effect::refuse(Refusal::StoreFault);
     }
     memory::store_cell(addresses, count, frame - 1, next, target)
 }
@@ -31,28 +31,28 @@ pub fn return_from(
     numbers: &[u64],
     marks: &[u64],
     count: usize,
-) -> Action
+) -> Effect
     requires { ⌜ Ordered guarded count (now addresses) (now numbers) (now marks) ⌝ }
     ensures { λ r. ⌜ ((l : List ℕ) → Means l r (λ t. withMark t (returnsFrom guarded (cellsOf count (now (addresses .entry)) (now (numbers .entry))) (cellsOf count (now (addresses .entry)) (now (marks .entry))) frame))) ⌝ }
 {
     if frame < 2 {
-        return Action::refuse(Refusal::CellAbsent);
+        return Effect::refuse(Refusal::CellAbsent);
     }
     match cells::find(addresses, count, frame - 2) {
-        Found::Absent(_) => Action::refuse(Refusal::CellAbsent),
+        Found::Absent(_) => Effect::refuse(Refusal::CellAbsent),
         Found::At(at) => {
             if count - at < 2 {
-                return Action::refuse(Refusal::CellAbsent);
+                return Effect::refuse(Refusal::CellAbsent);
             }
             if addresses[at + 1] != frame - 1 {
-                return Action::refuse(Refusal::CellAbsent);
+                return Effect::refuse(Refusal::CellAbsent);
             }
             if guarded {
                 if marks[at + 1] == 1 {
-                    return Action::sink();
+                    return Effect::sink();
                 }
             }
-            Action::set_register(9, numbers[at], guarded && marks[at] == 1, numbers[at + 1])
+            Effect::set_register(9, numbers[at], guarded && marks[at] == 1, numbers[at + 1])
         }
     }
 }

@@ -1,5 +1,5 @@
-// What a step does, as an action or a refusal: the actions of the opcodes, each from its operands as they were read. Nothing is written
-// here: registers, cells and tape are only read, the crate `decision` decides a whole step, and `interpreter` carries actions out.
+// What a step does, as an effect or a refusal: the effects of the opcodes, each from its operands as they were read. Nothing is written
+// here: registers, cells and tape are only read, the crate `decision` decides a whole step, and `interpreter` carries effects out.
 //
 // All functions are internal, for the crates above.
 pub mod arithmetic;
@@ -16,7 +16,7 @@ ghost use mathlib.Core.List.{List};
 ghost use Prim.Native.Nat.{ℕ};
 ghost use Rattle.hardware.specs.declared.cells.Found.the-variants as Found;
 ghost use Rattle.hardware.specs.Buffers.{foundOf};
-ghost use Rattle.effects.specs.Actions.{SetRegister, Store, Jump, LoadTape, StoreTape, CallContract, End, Refuse, Sink, Means};
+ghost use Rattle.effects.specs.Effects.{SetRegister, Store, Jump, LoadTape, StoreTape, CallContract, End, Refuse, Sink, Means};
 
 // What is run: the plain machine, or the guarded one with the marks of its registers, bit r for register r.
 pub struct Mode {
@@ -31,7 +31,7 @@ pub struct Counts {
     pub output: usize,
 }
 
-pub enum Kind {
+pub enum EffectKind {
     SetRegister,
     StoreAt,
     Insert,
@@ -47,8 +47,8 @@ pub enum Kind {
 // What a step does. One flat record for all kinds, so that it stays in the processor's registers: what a kind does not need is 0. `place`
 // is a register, or a place among cells or on the tape; `next` is the pc after the step; `flag` is the mark of a number from a cell, which
 // counts only in a guarded run, or whether a call delegates. A present cell's address says only what is meant.
-pub struct Action {
-    pub kind: Kind,
+pub struct Effect {
+    pub kind: EffectKind,
     pub place: usize,
     pub count: usize,
     pub address: u64,
@@ -57,13 +57,13 @@ pub struct Action {
     pub next: u64,
 }
 
-impl Action {
+impl Effect {
     // A number to a register. It is marked by the flag, and by the registers that it is made of, which are looked at where it is written.
-    pub fn set_register(register: usize, value: u64, mark: bool, next: u64) -> Action
+    pub fn set_register(register: usize, value: u64, mark: bool, next: u64) -> Effect
         ensures { λ r. ⌜ ((l : List ℕ) → Means l r (λ t. SetRegister register value (mark || t) next)) ⌝ }
     {
-        Action {
-            kind: Kind::SetRegister,
+        Effect {
+            kind: EffectKind::SetRegister,
             place: register,
             count: 0,
             address: 0,
@@ -74,11 +74,11 @@ impl Action {
     }
 
     // A number to the present cell at a place.
-    pub fn store_at(at: usize, address: u64, number: u64, next: u64) -> Action
+    pub fn store_at(at: usize, address: u64, number: u64, next: u64) -> Effect
         ensures { λ r. ⌜ ((l : List ℕ) → Found.At at ≡ foundOf l address → Means l r (λ t. Store address number t next)) ⌝ }
     {
-        Action {
-            kind: Kind::StoreAt,
+        Effect {
+            kind: EffectKind::StoreAt,
             place: at,
             count: 0,
             address,
@@ -89,11 +89,11 @@ impl Action {
     }
 
     // A number to a new cell, which is put in at a place.
-    pub fn insert(at: usize, address: u64, number: u64, next: u64) -> Action
+    pub fn insert(at: usize, address: u64, number: u64, next: u64) -> Effect
         ensures { λ r. ⌜ ((l : List ℕ) → Found.Absent at ≡ foundOf l address → Means l r (λ t. Store address number t next)) ⌝ }
     {
-        Action {
-            kind: Kind::Insert,
+        Effect {
+            kind: EffectKind::Insert,
             place: at,
             count: 0,
             address,
@@ -103,11 +103,11 @@ impl Action {
         }
     }
 
-    pub fn jump(next: u64) -> Action
+    pub fn jump(next: u64) -> Effect
         ensures { λ r. ⌜ ((l : List ℕ) → Means l r (λ t. Jump next)) ⌝ }
     {
-        Action {
-            kind: Kind::Jump,
+        Effect {
+            kind: EffectKind::Jump,
             place: 0,
             count: 0,
             address: 0,
@@ -118,11 +118,11 @@ impl Action {
     }
 
     // Tape values from a place on to the cells from an address on.
-    pub fn load_tape(from: usize, count: usize, address: u64, next: u64) -> Action
+    pub fn load_tape(from: usize, count: usize, address: u64, next: u64) -> Effect
         ensures { λ r. ⌜ ((l : List ℕ) → Means l r (λ t. LoadTape from count address next)) ⌝ }
     {
-        Action {
-            kind: Kind::LoadTape,
+        Effect {
+            kind: EffectKind::LoadTape,
             place: from,
             count,
             address,
@@ -133,11 +133,11 @@ impl Action {
     }
 
     // The numbers of cells from a place on to tape and output.
-    pub fn store_tape(at: usize, count: usize, next: u64) -> Action
+    pub fn store_tape(at: usize, count: usize, next: u64) -> Effect
         ensures { λ r. ⌜ ((l : List ℕ) → Means l r (λ t. StoreTape at count next)) ⌝ }
     {
-        Action {
-            kind: Kind::StoreTape,
+        Effect {
+            kind: EffectKind::StoreTape,
             place: at,
             count,
             address: 0,
@@ -148,11 +148,11 @@ impl Action {
     }
 
     // A call; the four cells from a place on name the callee.
-    pub fn call_contract(at: usize, delegate: bool, next: u64) -> Action
+    pub fn call_contract(at: usize, delegate: bool, next: u64) -> Effect
         ensures { λ r. ⌜ ((l : List ℕ) → Means l r (λ t. CallContract at delegate next)) ⌝ }
     {
-        Action {
-            kind: Kind::CallContract,
+        Effect {
+            kind: EffectKind::CallContract,
             place: at,
             count: 0,
             address: 0,
@@ -162,11 +162,11 @@ impl Action {
         }
     }
 
-    pub fn end(next: u64) -> Action
+    pub fn end(next: u64) -> Effect
         ensures { λ r. ⌜ ((l : List ℕ) → Means l r (λ t. End next)) ⌝ }
     {
-        Action {
-            kind: Kind::End,
+        Effect {
+            kind: EffectKind::End,
             place: 0,
             count: 0,
             address: 0,
@@ -176,11 +176,11 @@ impl Action {
         }
     }
 
-    pub fn refuse(refusal: Refusal) -> Action
+    pub fn refuse(refusal: Refusal) -> Effect
         ensures { λ r. ⌜ ((l : List ℕ) → Means l r (λ t. Refuse refusal)) ⌝ }
     {
-        Action {
-            kind: Kind::Refuse(refusal),
+        Effect {
+            kind: EffectKind::Refuse(refusal),
             place: 0,
             count: 0,
             address: 0,
@@ -191,11 +191,11 @@ impl Action {
     }
 
     // Refusal 18.
-    pub fn sink() -> Action
+    pub fn sink() -> Effect
         ensures { λ r. ⌜ ((l : List ℕ) → Means l r (λ t. Sink)) ⌝ }
     {
-        Action {
-            kind: Kind::Sink,
+        Effect {
+            kind: EffectKind::Sink,
             place: 0,
             count: 0,
             address: 0,

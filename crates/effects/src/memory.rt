@@ -1,5 +1,5 @@
 // MLOAD and MSTORE, and the tests of a store.
-use crate::Action;
+use crate::Effect;
 use goldilocks::FieldElement;
 use hardware::cells;
 use hardware::cells::Cell;
@@ -12,7 +12,7 @@ ghost use Prim.Native.Nat.{ℕ};
 ghost use lib.ListN.{take};
 ghost use Rattle.rules.specs.Step.{isStorable};
 ghost use Rattle.hardware.specs.Buffers.{cellsOf, cellOf, Rising, Ordered};
-ghost use Rattle.effects.specs.Actions.{Means};
+ghost use Rattle.effects.specs.Effects.{Means};
 ghost use Rattle.effects.specs.Operations.{withMark, loadsAt, storesAt, testOf, hasCapacity, storesWhere};
 
 // A store's tests pass, or one refuses.
@@ -44,19 +44,19 @@ pub fn test_store(address: u64, number: u64) -> Tested
 }
 
 // One number to one cell, for CALL and MSTORE.
-pub fn store_cell(addresses: &[u64], count: usize, address: u64, number: u64, next: u64) -> Action
+pub fn store_cell(addresses: &[u64], count: usize, address: u64, number: u64, next: u64) -> Effect
     requires { ⌜ Rising count (now addresses) ⌝ }
     ensures { λ r. ⌜ Means (take count (now (addresses .entry))) r (λ t. storesWhere (hasCapacity (now (addresses .entry)) count address 1) address number t next) ⌝ }
 {
     match test_store(address, number) {
-        Tested::Refused(f) => Action::refuse(f),
+        Tested::Refused(f) => Effect::refuse(f),
         Tested::Passes => match cells::find(addresses, count, address) {
-            Found::At(at) => Action::store_at(at, address, number, next),
+            Found::At(at) => Effect::store_at(at, address, number, next),
             Found::Absent(at) => {
                 if count < addresses.len() {
-                    return Action::insert(at, address, number, next);
+                    return Effect::insert(at, address, number, next);
                 }
-                Action::refuse(Refusal::NoCapacity)
+                Effect::refuse(Refusal::NoCapacity)
             }
         },
     }
@@ -72,16 +72,16 @@ pub fn load(
     numbers: &[u64],
     marks: &[u64],
     count: usize,
-) -> Action
+) -> Effect
     requires { ⌜ Ordered guarded count (now addresses) (now numbers) (now marks) ⌝ }
     ensures { λ r. ⌜ ((l : List ℕ) → Means l r (λ t. withMark t (loadsAt (cellOf guarded (cellsOf count (now (addresses .entry)) (now (numbers .entry))) (cellsOf count (now (addresses .entry)) (now (marks .entry)))) address register next))) ⌝ }
 {
     let FieldElement::Element(x) = address else {
-        return Action::refuse(Refusal::NotInField);
+        return Effect::refuse(Refusal::NotInField);
     };
     match cells::read(guarded, addresses, numbers, marks, count, x.value) {
-        Cell::Present { number, marked } => Action::set_register(register, number, marked, next),
-        Cell::Absent => Action::refuse(Refusal::CellAbsent),
+        Cell::Present { number, marked } => Effect::set_register(register, number, marked, next),
+        Cell::Absent => Effect::refuse(Refusal::CellAbsent),
     }
 }
 
@@ -92,12 +92,12 @@ pub fn store(
     next: u64,
     addresses: &[u64],
     count: usize,
-) -> Action
+) -> Effect
     requires { ⌜ Rising count (now addresses) ⌝ }
     ensures { λ r. ⌜ Means (take count (now (addresses .entry))) r (λ t. storesAt (now (addresses .entry)) count address number t next) ⌝ }
 {
     let FieldElement::Element(x) = address else {
-        return Action::refuse(Refusal::NotInField);
+        return Effect::refuse(Refusal::NotInField);
     };
     store_cell(addresses, count, x.value, number, next)
 }

@@ -1,5 +1,5 @@
 // TLOAD, TSTORE and SCCALL.
-use crate::Action;
+use crate::Effect;
 use crate::memory;
 use crate::memory::Tested;
 use crate::marks;
@@ -18,8 +18,8 @@ ghost use Rattle.rules.specs.Numbers.{wordEnd};
 ghost use Rattle.rules.specs.Step.{spanFits};
 ghost use Rattle.rules.specs.Entry.{every};
 ghost use Rattle.hardware.specs.Buffers.{Rising};
-ghost use Rattle.effects.specs.Actions.{StoreTape, CallContract, Means};
-ghost use Rattle.effects.specs.Effects.{check, sinkWhere, tapeFrom, tapeCount};
+ghost use Rattle.effects.specs.Effects.{StoreTape, CallContract, Means};
+ghost use Rattle.effects.specs.Changes.{check, sinkWhere, tapeFrom, tapeCount};
 ghost use Rattle.effects.specs.Operations.{testsOf, hasCapacity, loadsPart, onTapeOf, loadsTape, spanAmong, onSpan, partMark, more};
 
 // Where a span's first cell is, or its refusal.
@@ -80,7 +80,7 @@ pub fn store_tape(
     used: usize,
     output: &[u64],
     shown: usize,
-) -> Action
+) -> Effect
     requires { ⌜ Rising count (now addresses) ⌝ }
     requires { ⌜ (guarded ≡ true → length (now marks) ≡ length (now addresses)) ⌝ }
     requires { ⌜ used ≤ length (now tape) ⌝ }
@@ -88,19 +88,19 @@ pub fn store_tape(
     ensures { λ r. ⌜ ((l : List ℕ) → Means l r (λ t. onSpan (spanAmong (take count (now (addresses .entry))) start n) (λ at. sinkWhere (partMark guarded (now (marks .entry)) at n) (check (more used n (now (tape .entry))) NoCapacity (check (more shown n (now (output .entry))) NoCapacity (StoreTape at n next)))))) ⌝ }
 {
     match find_cells(addresses, count, start, n) {
-        SpanFound::Refused(f) => Action::refuse(f),
+        SpanFound::Refused(f) => Effect::refuse(f),
         SpanFound::At(at) => {
             let length = n as usize;
             if marks::is_part_marked(guarded, marks, at, length) {
-                return Action::sink();
+                return Effect::sink();
             }
             if tape.len() - used < length {
-                return Action::refuse(Refusal::NoCapacity);
+                return Effect::refuse(Refusal::NoCapacity);
             }
             if output.len() - shown < length {
-                return Action::refuse(Refusal::NoCapacity);
+                return Effect::refuse(Refusal::NoCapacity);
             }
-            Action::store_tape(at, length, next)
+            Effect::store_tape(at, length, next)
         }
     }
 }
@@ -116,22 +116,22 @@ pub fn call_contract(
     count: usize,
     tape: &[u64],
     used: usize,
-) -> Action
+) -> Effect
     requires { ⌜ Rising count (now addresses) ⌝ }
     requires { ⌜ (guarded ≡ true → length (now marks) ≡ length (now addresses)) ⌝ }
     requires { ⌜ used ≤ length (now tape) ⌝ }
     ensures { λ r. ⌜ ((l : List ℕ) → Means l r (λ t. onSpan (spanAmong (take count (now (addresses .entry))) start 4) (λ at. sinkWhere (partMark guarded (now (marks .entry)) at 4) (check (more used 12 (now (tape .entry))) NoCapacity (CallContract at (eqb b 1) next))))) ⌝ }
 {
     match find_cells(addresses, count, start, 4) {
-        SpanFound::Refused(f) => Action::refuse(f),
+        SpanFound::Refused(f) => Effect::refuse(f),
         SpanFound::At(at) => {
             if marks::is_part_marked(guarded, marks, at, 4) {
-                return Action::sink();
+                return Effect::sink();
             }
             if tape.len() - used < 12 {
-                return Action::refuse(Refusal::NoCapacity);
+                return Effect::refuse(Refusal::NoCapacity);
             }
-            Action::call_contract(at, b == 1, next)
+            Effect::call_contract(at, b == 1, next)
         }
     }
 }
@@ -219,22 +219,22 @@ fn load_part(
     addresses: &[u64],
     count: usize,
     next: u64,
-) -> Action
+) -> Effect
     requires { ⌜ Rising count (now addresses) ⌝ }
     requires { ⌜ from + n ≤ length (now tape) ⌝ }
     ensures { λ r. ⌜ ((l : List ℕ) → Means l r (λ t. loadsPart (now (tape .entry)) from n address (hasCapacity (now (addresses .entry)) count address n) next)) ⌝ }
 {
     if reaches_word_end(address, n as u64) {
-        return Action::refuse(Refusal::StoreFault);
+        return Effect::refuse(Refusal::StoreFault);
     }
     let end = from + n;
     match test_values(&tape[from..end], address) {
-        Tested::Refused(f) => Action::refuse(f),
+        Tested::Refused(f) => Effect::refuse(f),
         Tested::Passes => {
             if cells::has_capacity(addresses, count, address, n) {
-                return Action::load_tape(from, n, address, next);
+                return Effect::load_tape(from, n, address, next);
             }
-            Action::refuse(Refusal::NoCapacity)
+            Effect::refuse(Refusal::NoCapacity)
         }
     }
 }
@@ -249,13 +249,13 @@ pub fn load_tape(
     addresses: &[u64],
     count: usize,
     next: u64,
-) -> Action
+) -> Effect
     requires { ⌜ Rising count (now addresses) ⌝ }
     requires { ⌜ used ≤ length (now tape) ⌝ }
     ensures { λ r. ⌜ ((l : List ℕ) → Means l r (λ t. loadsTape a b (now (tape .entry)) used address (hasCapacity (now (addresses .entry)) count address (tapeCount a b)) next)) ⌝ }
 {
     if !is_on_tape(a, b, used) {
-        return Action::refuse(Refusal::TapeFault);
+        return Effect::refuse(Refusal::TapeFault);
     }
     let from = tape_from(a, b, used);
     let n = tape_count(a, b);

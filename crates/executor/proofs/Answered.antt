@@ -13,13 +13,13 @@ use Rattle.rules.specs.Frames.{loadWords}
 use Rattle.rules.specs.Text.{loadText, loadBudgetText}
 use Rattle.rules.specs.Answers.{meaning}
 use Rattle.rules.specs.Entry.{Snapshot, plainEntry}
-use Rattle.rules.specs.Calls.{Called, refused, plainRunOf, plainAnswered, plainCall, plainWords, plainText, plainBudgetText}
+use Rattle.rules.specs.Calls.{Called, refusedCall, plainRunOf, plainAnswered, plainCall, plainWords, plainText, plainBudgetText}
 use Rattle.executor.specs.declared.Called as Code
 use Rattle.executor.specs.Calling.{snapshot, called}
 
 -- refused at entry
 pub refused-is : (r : Code.Called) (f : Refusal) (m : Machine) (xs ns tape output : List ℕ) → r ≡ record { answer = Refused f; steps = 0; machine = m }
-    → called r xs ns tape output ≡ refused f (snapshot m xs ns tape output)
+    → called r xs ns tape output ≡ refusedCall f (snapshot m xs ns tape output)
 unfolding meaning
 refused-is r f m xs ns tape output e = ap (λ (x : Code.Called). called x xs ns tape output) e
 
@@ -28,13 +28,13 @@ module _ (program : List Instruction) (budget : ℕ) (s : Snapshot) (c : Called 
   unfolding plainCall
   entered h e = rw h e
 
-  pub unfit : plainEntry s ≡ false → c ≡ refused BadState s → c ≡ plainCall (pass program) budget s
+  pub unfit : plainEntry s ≡ false → c ≡ refusedCall BadState s → c ≡ plainCall (pass program) budget s
   unfolding plainCall
   unfit h e = rw h e
 
 module _ (budget : ℕ) (s : Snapshot) (c : Called Snapshot) where
   module _ (words : List ℕ) where
-    pub words-refused : (f : Refusal) → loadWords words ≡ refuse f → c ≡ refused f s → c ≡ plainWords words budget s
+    pub words-refused : (f : Refusal) → loadWords words ≡ refuse f → c ≡ refusedCall f s → c ≡ plainWords words budget s
     unfolding plainWords plainCall
     words-refused f h e = rw h e
 
@@ -43,7 +43,7 @@ module _ (budget : ℕ) (s : Snapshot) (c : Called Snapshot) where
     words-loaded h e = rw h e
 
   module _ (text : List ℕ) where
-    pub text-refused : (f : Refusal) → loadText text ≡ refuse f → c ≡ refused f s → c ≡ plainText text budget s
+    pub text-refused : (f : Refusal) → loadText text ≡ refuse f → c ≡ refusedCall f s → c ≡ plainText text budget s
     unfolding plainText plainCall
     text-refused f h e = rw h e
 
@@ -53,7 +53,7 @@ module _ (budget : ℕ) (s : Snapshot) (c : Called Snapshot) where
     text-loaded words h k e = rw h (rw k at e)
 
 module _ (text : List ℕ) (s : Snapshot) (c : Called Snapshot) where
-  pub job-refused : (f : Refusal) → loadBudgetText text ≡ refuse f → c ≡ refused f s → c ≡ plainBudgetText text s
+  pub job-refused : (f : Refusal) → loadBudgetText text ≡ refuse f → c ≡ refusedCall f s → c ≡ plainBudgetText text s
   unfolding plainBudgetText plainCall
   job-refused f h e = rw h e
 

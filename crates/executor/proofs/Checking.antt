@@ -12,12 +12,12 @@ use Rattle.rules.specs.Answers.{Meaning, meaning}
 use Rattle.rules.specs.Entry.{Snapshot, plainEntry}
 use Rattle.rules.specs.Calls.{plainCall}
 use Rattle.program.specs.declared.binary_program.Checked.{Checked}
-use Rattle.program.specs.Loads.{checkedOf, CheckMeaning, accepted, refused, checkMeaning}
+use Rattle.program.specs.WordLoads.{checkedOf, CheckMeaning, accepted, refusedWith, checkMeaning}
 
 -- by what the check says, and whether the state is fit
 abbrev answerOf : CheckMeaning → Bool → Meaning
 answerOf (accepted n) fit = choose fit (meaning A.Paused) (meaning (A.Refused BadState))
-answerOf (refused m) fit = m
+answerOf (refusedWith m) fit = m
 
 module _ (s : Snapshot) where
   fit-or-not : (program : List Instruction) (fit : Bool) → plainEntry s ≡ fit

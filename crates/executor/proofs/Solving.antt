@@ -10,7 +10,7 @@ use Rattle.rules.specs.Calls.{plainBudgetText}
 use Rattle.rules.specs.Solve.{printed, solveStart, solve}
 use Rattle.hexadecimal.specs.declared.Put.{Put}
 use Rattle.hexadecimal.specs.Writing.{Writes}
-use Rattle.report.specs.Lines.{reported}
+use Rattle.report.specs.ReportLines.{reported}
 use Rattle.executor.specs.declared.Called.{Called}
 use Rattle.executor.specs.Calling.{snapshot, called}
 

@@ -24,8 +24,8 @@ ghost use Rattle.rules.specs.Answers.{meaning};
 ghost use Rattle.rules.specs.Calls.{jobProgram, plainCall, plainWords, plainText, plainBudgetText};
 ghost use Rattle.rules.specs.Solve.{solveStart, solve};
 ghost use Rattle.hexadecimal.specs.Writing.{Writes};
-ghost use Rattle.program.specs.Loads.{checkedOf, checkMeaning};
-ghost use Rattle.program.specs.Rows.{programOf, EmptyRows};
+ghost use Rattle.program.specs.WordLoads.{checkedOf, checkMeaning};
+ghost use Rattle.program.specs.Table.{programOf, EmptyRows};
 ghost use Rattle.interpreter.specs.Runs.{Loaded};
 ghost use Rattle.executor.specs.Calling.{snapshot, called};
 

@@ -13,7 +13,7 @@ use Rattle.rules.specs.Frames.{loadWords}
 use Rattle.rules.specs.Text.{loadText, loadBudgetText}
 use Rattle.rules.specs.Answers.{meaning}
 use Rattle.rules.specs.Entry.{GuardedSnapshot, plainEntry, marksEntry, guardedEntry, all}
-use Rattle.rules.specs.Calls.{Called, refused, guardedRunOf, guardedAnswered, guardedCall, guardedWords, guardedText, guardedBudgetText}
+use Rattle.rules.specs.Calls.{Called, refusedCall, guardedRunOf, guardedAnswered, guardedCall, guardedWords, guardedText, guardedBudgetText}
 use Rattle.rules.proofs.EntryLaws.{all-at}
 use Rattle.guarded.specs.declared.Called as Code
 use Rattle.guarded.specs.Calling.{snapshot, called}
@@ -41,7 +41,7 @@ module _ (m : Machine) (w : ℕ) (xs ns ts tape output : List ℕ) where
 -- refused at entry
 pub refused-is : (r : Code.Called) (f : Refusal) (m : Machine) (w : ℕ) (xs ns ts tape output : List ℕ)
     → r ≡ record { answer = Refused f; steps = 0; machine = m; «register_marks» = w }
-    → called r xs ns ts tape output ≡ refused f (snapshot m w xs ns ts tape output)
+    → called r xs ns ts tape output ≡ refusedCall f (snapshot m w xs ns ts tape output)
 unfolding meaning
 refused-is r f m w xs ns ts tape output e = ap (λ (x : Code.Called). called x xs ns ts tape output) e
 
@@ -50,13 +50,13 @@ module _ (program : List Instruction) (budget : ℕ) (g : GuardedSnapshot) (c : 
   unfolding guardedCall
   entered h e = rw h e
 
-  pub unfit : guardedEntry g ≡ false → c ≡ refused BadState g → c ≡ guardedCall (pass program) budget g
+  pub unfit : guardedEntry g ≡ false → c ≡ refusedCall BadState g → c ≡ guardedCall (pass program) budget g
   unfolding guardedCall
   unfit h e = rw h e
 
 module _ (budget : ℕ) (g : GuardedSnapshot) (c : Called GuardedSnapshot) where
   module _ (words : List ℕ) where
-    pub words-refused : (f : Refusal) → loadWords words ≡ refuse f → c ≡ refused f g → c ≡ guardedWords words budget g
+    pub words-refused : (f : Refusal) → loadWords words ≡ refuse f → c ≡ refusedCall f g → c ≡ guardedWords words budget g
     unfolding guardedWords guardedCall
     words-refused f h e = rw h e
 
@@ -65,7 +65,7 @@ module _ (budget : ℕ) (g : GuardedSnapshot) (c : Called GuardedSnapshot) where
     words-loaded h e = rw h e
 
   module _ (text : List ℕ) where
-    pub text-refused : (f : Refusal) → loadText text ≡ refuse f → c ≡ refused f g → c ≡ guardedText text budget g
+    pub text-refused : (f : Refusal) → loadText text ≡ refuse f → c ≡ refusedCall f g → c ≡ guardedText text budget g
     unfolding guardedText guardedCall
     text-refused f h e = rw h e
 
@@ -75,7 +75,7 @@ module _ (budget : ℕ) (g : GuardedSnapshot) (c : Called GuardedSnapshot) where
     text-loaded words h k e = rw h (rw k at e)
 
 module _ (text : List ℕ) (g : GuardedSnapshot) (c : Called GuardedSnapshot) where
-  pub job-refused : (f : Refusal) → loadBudgetText text ≡ refuse f → c ≡ refused f g → c ≡ guardedBudgetText text g
+  pub job-refused : (f : Refusal) → loadBudgetText text ≡ refuse f → c ≡ refusedCall f g → c ≡ guardedBudgetText text g
   unfolding guardedBudgetText guardedCall
   job-refused f h e = rw h e
 

@@ -30,8 +30,8 @@ ghost use Rattle.rules.specs.Text.{loadBudgetText};
 ghost use Rattle.rules.specs.Answers.{meaning};
 ghost use Rattle.rules.specs.Entry.{guardedEntry};
 ghost use Rattle.rules.specs.Calls.{jobProgram, guardedCall, guardedWords, guardedText, guardedBudgetText};
-ghost use Rattle.program.specs.Loads.{checkedOf, checkMeaning};
-ghost use Rattle.program.specs.Rows.{programOf, EmptyRows};
+ghost use Rattle.program.specs.WordLoads.{checkedOf, checkMeaning};
+ghost use Rattle.program.specs.Table.{programOf, EmptyRows};
 ghost use Rattle.interpreter.specs.Runs.{Loaded};
 ghost use Rattle.guarded.specs.Calling.{snapshot, called};
 

@@ -1,9 +1,9 @@
-// Actions carried out. Buffers are written by the functions of `hardware` alone.
+// Effects carried out. Buffers are written by the functions of `hardware` alone.
 use crate::Finish;
 use crate::Stepped;
-use effects::Action;
+use effects::Effect;
 use effects::Counts;
-use effects::Kind;
+use effects::EffectKind;
 use effects::Mode;
 use rules::Answer;
 ghost use mathlib.Core.Path.{_≡_};
@@ -15,7 +15,7 @@ ghost use Rattle.rules.specs.Cells as Cells;
 ghost use Rattle.rules.specs.Step.{overlay};
 ghost use Rattle.rules.specs.Guarded.{cleanMany};
 ghost use Rattle.hardware.specs.Buffers.{cellsOf, putMany, Ordered, Holding};
-ghost use Rattle.effects.specs.Actions.{meant, Placed};
+ghost use Rattle.effects.specs.Effects.{meant, Placed};
 ghost use Rattle.effects.specs.Carrying.{part, callValues};
 ghost use Rattle.interpreter.specs.Cores.{coreOf};
 ghost use Rattle.interpreter.specs.Steps.{callAnswer, marksAfter, clkAfter, coreAfter, Carriable, CarriedOut};
@@ -116,11 +116,11 @@ fn call_contract(
     Answer::Calling(c0, c1, c2, c3)
 }
 
-// Carries an action out: registers, which are the first of the values, and buffers are changed in place, the rest is handed back. `mark`
-// is that of the registers that the action's number is made of. clk is not looked at: 0 stands for it in what is required, and what is
+// Carries an effect out: registers, which are the first of the values, and buffers are changed in place, the rest is handed back. `mark`
+// is that of the registers that the effect's number is made of. clk is not looked at: 0 stands for it in what is required, and what is
 // promised holds for any.
 pub(crate) fn carry_out(
-    action: Action,
+    effect: Effect,
     mark: bool,
     mode: Mode,
     values: &mut [u64],
@@ -134,28 +134,28 @@ pub(crate) fn carry_out(
     output: &mut [u64],
 ) -> Stepped
     requires { ⌜ 10 ≤ length (now values) ⌝ }
-    requires { ⌜ Placed (take (counts .cells) (now addresses)) action ⌝ }
-    requires { ⌜ Carriable (meant mark action) (coreOf mode (take 10 (now values)) pc 0 counts (now addresses) (now numbers) (now marks) (now tape) (now output)) ⌝ }
-    ensures { λ r. ⌜ ((clk : ℕ) → CarriedOut «storage_addr» (meant mark action) (coreOf mode (take 10 (now (values .entry))) pc clk counts (now (addresses .entry)) (now (numbers .entry)) (now (marks .entry)) (now (tape .entry)) (now (output .entry))) (r .finish) (coreAfter mode r (clkAfter (r .finish) clk) (take 10 (now (values .exit))) (now (addresses .exit)) (now (numbers .exit)) (now (marks .exit)) (now (tape .exit)) (now (output .exit)))) ⌝ }
+    requires { ⌜ Placed (take (counts .cells) (now addresses)) effect ⌝ }
+    requires { ⌜ Carriable (meant mark effect) (coreOf mode (take 10 (now values)) pc 0 counts (now addresses) (now numbers) (now marks) (now tape) (now output)) ⌝ }
+    ensures { λ r. ⌜ ((clk : ℕ) → CarriedOut «storage_addr» (meant mark effect) (coreOf mode (take 10 (now (values .entry))) pc clk counts (now (addresses .entry)) (now (numbers .entry)) (now (marks .entry)) (now (tape .entry)) (now (output .entry))) (r .finish) (coreAfter mode r (clkAfter (r .finish) clk) (take 10 (now (values .exit))) (now (addresses .exit)) (now (numbers .exit)) (now (marks .exit)) (now (tape .exit)) (now (output .exit)))) ⌝ }
     ensures { λ _. ⌜ (length (now (values .exit)) ≡ length (now (values .entry))) × (drop 10 (now (values .exit)) ≡ drop 10 (now (values .entry))) ⌝ }
 {
     let register_marks = mode.register_marks;
-    let kind = action.kind;
-    let place = action.place;
-    let count = action.count;
-    let next = action.next;
+    let kind = effect.kind;
+    let place = effect.place;
+    let count = effect.count;
+    let next = effect.next;
     match kind {
-        Kind::SetRegister => {
-            values[place] = action.number;
+        EffectKind::SetRegister => {
+            values[place] = effect.number;
             Stepped {
                 pc: next,
                 counts,
-                register_marks: marks_after(mode, place, action.flag | mark),
+                register_marks: marks_after(mode, place, effect.flag | mark),
                 finish: Finish::GoesOn,
             }
         }
-        Kind::StoreAt => {
-            hardware::cells::write_at(mode.guarded, numbers, marks, place, action.number, mark);
+        EffectKind::StoreAt => {
+            hardware::cells::write_at(mode.guarded, numbers, marks, place, effect.number, mark);
             Stepped {
                 pc: next,
                 counts,
@@ -163,7 +163,7 @@ pub(crate) fn carry_out(
                 finish: Finish::GoesOn,
             }
         }
-        Kind::Insert => {
+        EffectKind::Insert => {
             hardware::cells::insert(
                 mode.guarded,
                 addresses,
@@ -171,8 +171,8 @@ pub(crate) fn carry_out(
                 marks,
                 counts.cells,
                 place,
-                action.address,
-                action.number,
+                effect.address,
+                effect.number,
                 mark,
             );
             let cells = counts.cells + 1;
@@ -187,13 +187,13 @@ pub(crate) fn carry_out(
                 finish: Finish::GoesOn,
             }
         }
-        Kind::Jump => Stepped {
+        EffectKind::Jump => Stepped {
             pc: next,
             counts,
             register_marks,
             finish: Finish::GoesOn,
         },
-        Kind::LoadTape => {
+        EffectKind::LoadTape => {
             let cells = load_tape(
                 mode.guarded,
                 addresses,
@@ -203,7 +203,7 @@ pub(crate) fn carry_out(
                 tape,
                 place,
                 count,
-                action.address,
+                effect.address,
             );
             Stepped {
                 pc: next,
@@ -216,7 +216,7 @@ pub(crate) fn carry_out(
                 finish: Finish::GoesOn,
             }
         }
-        Kind::StoreTape => {
+        EffectKind::StoreTape => {
             append_numbers(tape, counts.tape, numbers, place, count);
             append_numbers(output, counts.output, numbers, place, count);
             let tape_count = counts.tape + count;
@@ -232,12 +232,12 @@ pub(crate) fn carry_out(
                 finish: Finish::GoesOn,
             }
         }
-        Kind::CallContract => {
+        EffectKind::CallContract => {
             let answer = call_contract(
                 storage_addr,
                 numbers,
                 place,
-                action.flag,
+                effect.flag,
                 tape,
                 counts.tape,
             );
@@ -253,19 +253,19 @@ pub(crate) fn carry_out(
                 finish: Finish::Leaves(answer),
             }
         }
-        Kind::End => Stepped {
+        EffectKind::End => Stepped {
             pc: next,
             counts,
             register_marks,
             finish: Finish::Leaves(Answer::Ended),
         },
-        Kind::Refuse(refusal) => Stepped {
+        EffectKind::Refuse(refusal) => Stepped {
             pc,
             counts,
             register_marks,
             finish: Finish::Refuses(Answer::Refused(refusal)),
         },
-        Kind::Sink => Stepped {
+        EffectKind::Sink => Stepped {
             pc,
             counts,
             register_marks,

@@ -3,7 +3,7 @@ ghost use mathlib.Core.Path.{_≡_};
 ghost use Prim.Native.Nat.{_<_};
 ghost use lib.ListN.{set};
 ghost use Rattle.rules.specs.Entry.{lowBits, wordOfBits};
-ghost use Rattle.program.specs.Rows.{isAny};
+ghost use Rattle.program.specs.Table.{isAny};
 
 // Is one of a set's registers marked?
 pub fn is_any(marks: u64, registers: u64) -> bool

@@ -2,7 +2,7 @@
 use rules::OlaOpcode;
 ghost use mathlib.Core.Path.{_≡_};
 ghost use Rattle.rules.specs.Opcodes.{classOf};
-ghost use Rattle.program.specs.Rows.{lookedAt};
+ghost use Rattle.program.specs.Table.{lookedAt};
 ghost use Rattle.operands.specs.Meanings.{wantsMeant};
 
 // What is asked of an operand: nothing, that it is absent, its number, a register's number, or a register to write.

@@ -1,3 +1,3 @@
 -- What the contracts of `program` cite beside the rules.
-pub mod Rows
-pub mod Loads
+pub mod Table
+pub mod WordLoads

@@ -11,7 +11,7 @@ use borrow.Author.Tests.{eq-eqb, ne-eqb, ltb-true, ltb-false}
 use Rattle.rules.specs.Numbers.{choose}
 use Rattle.rules.specs.Text.{ended, unended, lineFeed, linesAfter, linesOf}
 use Rattle.program.proofs.Cases.{cases}
-use Rattle.program_text.specs.Lines.{lineLength}
+use Rattle.program_text.specs.TextLines.{lineLength}
 
 -- one character more or less
 pub length-feed : (text : List ℕ) (i : ℕ) → i < length text → getD text i 0 ≡ lineFeed → lineLength (drop i text) ≡ 0

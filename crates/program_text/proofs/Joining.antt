@@ -11,7 +11,7 @@ use Rattle.rules.specs.declared.HexWord.{HexWord}
 use Rattle.rules.specs.declared.HexWord.the-variants.{Word, NotHex}
 use Rattle.rules.specs.Hexadecimal.{wordOf}
 use Rattle.rules.specs.Text.{consWord, joinedWords}
-use Rattle.program_text.specs.Lines.{part}
+use Rattle.program_text.specs.TextLines.{part}
 
 -- words before what joined words give
 abbrev pub after : List ℕ → Option (List ℕ) → Option (List ℕ)

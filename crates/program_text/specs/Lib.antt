@@ -1,3 +1,3 @@
 -- What the contracts of `program_text` cite beside the rules.
-pub mod Lines
-pub mod Loads
+pub mod TextLines
+pub mod TextLoads

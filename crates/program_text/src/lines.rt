@@ -11,7 +11,7 @@ ghost use lib.ListN.{length, take, drop};
 ghost use Rattle.rules.specs.declared.Refusal.the-variants.{BadLength, MalformedFrame};
 ghost use Rattle.rules.specs.Numbers.{choose};
 ghost use Rattle.rules.specs.Text.{linesOf};
-ghost use Rattle.program_text.specs.Lines.{lineLength, WholeWords, FrameEnd, ReadsWords, ReadsLine, ReadsFrame};
+ghost use Rattle.program_text.specs.TextLines.{lineLength, WholeWords, FrameEnd, ReadsWords, ReadsLine, ReadsFrame};
 
 // What a line holds: the words of a frame, or it is malformed.
 pub(crate) enum Line {

@@ -15,7 +15,7 @@ use Rattle.rules.specs.Solve.{kilosteps, decimal, valueLines}
 use Rattle.hexadecimal.proofs.Words.{low-length}
 use Rattle.report.specs.declared.label.Label.{Label}
 use Rattle.report.specs.declared.label.Label.the-variants as L
-use Rattle.report.specs.Lines.{valueLine, labelText, frameField, fields, firstLine}
+use Rattle.report.specs.ReportLines.{valueLine, labelText, frameField, fields, firstLine}
 
 pub decimal-one : (n : ℕ) → n < 10 → decimal n ≡ (n + 48) ∷ []
 unfolding decimal

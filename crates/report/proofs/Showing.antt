@@ -9,10 +9,10 @@ use Rattle.rules.specs.declared.Machine.{Machine}
 use Rattle.rules.specs.Answers.{Meaning, outcome, refusal}
 use Rattle.rules.specs.Entry.{Snapshot}
 use Rattle.rules.specs.Calls.{Called}
-use Rattle.rules.specs.Solve.{kilosteps, decimal, field, zeroFields, valueLines, carriedFields, printed}
+use Rattle.rules.specs.Solve.{kilosteps, decimal, spaced, zeroFields, valueLines, carriedFields, printed}
 use Rattle.report.specs.declared.label.Label.{Label}
 use Rattle.report.specs.declared.label.Label.the-variants as L
-use Rattle.report.specs.Lines.{Labels, outcome-label, refusal-label, frame-label, isEntryLabel, labelText, frameField, fields, firstLine, linesFrom}
+use Rattle.report.specs.ReportLines.{Labels, outcome-label, refusal-label, frame-label, isEntryLabel, labelText, frameField, fields, firstLine, linesFrom}
 
 -- `reported`, of any meaning
 abbrev called : Meaning → ℕ → Machine → List ℕ → Called Snapshot
@@ -37,7 +37,7 @@ module _ (steps : ℕ) (machine : Machine) (output : List ℕ) where
   shown-entry outcome-label e = absurd (let z : _≡_ {A = ℕ} 0 1 = cc in omega arith)
   shown-entry (refusal-label {n}) e = rw e (sym (append-nil (firstLine (L.Refusal n) 0 0 0)))
   shown-entry (frame-label {n}) e =
-      ap (λ (carried : List ℕ). decimal 2 ++ (zeroFields ++ (carried ++ (10 ∷ [])))) (append-nil (field n)) ∙ sym (append-nil (firstLine (L.Malformed n) 0 0 0))
+      ap (λ (carried : List ℕ). decimal 2 ++ (zeroFields ++ (carried ++ (10 ∷ [])))) (append-nil (spaced n)) ∙ sym (append-nil (firstLine (L.Malformed n) 0 0 0))
 
 -- the label, from what an answer means
 pub labels-outcome : {m : Meaning} {n : ℕ} {vs : List ℕ} → m ≡ outcome n vs → Labels m (L.Outcome n)

@@ -1,3 +1,3 @@
 -- What the contracts of `report` cite beside the rules.
 pub mod Placing
-pub mod Lines
+pub mod ReportLines

@@ -3,7 +3,7 @@ use rules::Answer;
 use rules::Refusal;
 ghost use mathlib.Core.Path.{_≡_};
 ghost use Rattle.rules.specs.Answers.{meaning, refusalMeaning};
-ghost use Rattle.report.specs.Lines.{Labels, isEntryLabel};
+ghost use Rattle.report.specs.ReportLines.{Labels, isEntryLabel};
 
 // An outcome or a refusal, by its number; refusal 2 by its frame.
 pub enum Label {

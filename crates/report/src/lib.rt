@@ -13,7 +13,7 @@ ghost use mathlib.Core.Path.{_≡_};
 ghost use lib.ListN.{take};
 ghost use Rattle.rules.specs.Solve.{printed, kilosteps};
 ghost use Rattle.hexadecimal.specs.Writing.{Writes};
-ghost use Rattle.report.specs.Lines.{reported};
+ghost use Rattle.report.specs.ReportLines.{reported};
 
 // The used part of the caller's output, as a part of it; all of it where the count is above its length.
 pub fn used_output(output: &[u64], count: usize) -> &[u64]

@@ -9,10 +9,10 @@ ghost use Prim.Native.Nat.{_+_, _≤_};
 ghost use lib.Dec.{leb};
 ghost use lib.ListN.{length};
 ghost use Rattle.rules.specs.Hexadecimal.{shortestHex};
-ghost use Rattle.rules.specs.Solve.{decimal, field, valueLines};
+ghost use Rattle.rules.specs.Solve.{decimal, spaced, valueLines};
 ghost use Rattle.hexadecimal.specs.Writing.{Writes};
 ghost use Rattle.report.specs.Placing.{Placed};
-ghost use Rattle.report.specs.Lines.{valueLine, labelText, fields, frameField, firstLine, linesFrom};
+ghost use Rattle.report.specs.ReportLines.{valueLine, labelText, fields, frameField, firstLine, linesFrom};
 
 // A word in shortest hexadecimal. It fits, so that there is no other answer than the next place.
 fn put_hex(buffer: &mut [u8], at: usize, v: u64) -> usize
@@ -27,8 +27,8 @@ fn put_hex(buffer: &mut [u8], at: usize, v: u64) -> usize
 
 // A space and a word.
 fn put_field(buffer: &mut [u8], at: usize, v: u64) -> usize
-    requires { ⌜ at + length (field v) ≤ length (now buffer) ⌝ }
-    ensures { λ r. ⌜ Placed (field v) (now (buffer .entry)) at r (now (buffer .exit)) ⌝ }
+    requires { ⌜ at + length (spaced v) ≤ length (now buffer) ⌝ }
+    ensures { λ r. ⌜ Placed (spaced v) (now (buffer .entry)) at r (now (buffer .exit)) ⌝ }
 {
     buffer[at] = b' ';
     put_hex(buffer, at + 1, v)

@@ -19,7 +19,7 @@ use Rattle.rules.specs.Cells.{Cells, none, cell, get, put, count, cells}
 use Rattle.rules.specs.Operands.{Want, ignored, lacking, value, register, target, inField, valueOf, targetOf, absence, operand}
 use Rattle.rules.specs.Step.{State, Next, isStorable, slotValue, readBelow, readMany, readSpan, storeMany, storeOne}
 use Rattle.rules.specs.Guarded.{registerMark, operandMark, MarkState, slotMark, cellMark, spanMark, cleanMany}
-use Rattle.rules.specs.Relations.{Both, refused, passed}
+use Rattle.rules.specs.Relations.{Both, both-refused, passed}
 use Rattle.rules.proofs.Relational.{both-same, both-bind, both-require}
 use Rattle.rules.proofs.BoolLaws.{false-true, or-left, or-right}
 
@@ -149,7 +149,7 @@ cells-count (cons h t) = ap suc (cells-count t)
 -- reading
 
 slot-read : {k c d : Slot ℕ} → SlotsRelated k c d → Both (Related (slotMark (cells ℕ) k)) (slotValue (cells ℕ) c) (slotValue (cells ℕ) d)
-slot-read no-slot = refused
+slot-read no-slot = both-refused
 slot-read (a-slot h) = passed h
 
 pub cell-read : {k c d : Cells ℕ} → CellsRelated k c d → (a : ℕ)
@@ -212,24 +212,24 @@ field-operand f u l h = both-require NotInField (related-element h) (both-requir
 pub value-operand : (psp : ℕ) {l : List Bool} {r s : List ℕ} → RegistersRelated l r s → (o : OlaOperand)
     → Both (Related (operandMark l o)) (valueOf psp r o) (valueOf psp s o)
 unfolding valueOf
-value-operand psp h Absent = refused
+value-operand psp h Absent = both-refused
 value-operand psp h (Immediate w) = passed (equal refl)
 value-operand psp h (Register i) = passed (registers-get h i)
 value-operand psp h (RegisterWithOffset i w) = field-operand fieldAdd w (λ x y. mod-below _) (registers-get h i)
 value-operand psp h (RegisterWithFactor i w) = field-operand fieldMul w (λ x y. mod-below _) (registers-get h i)
 value-operand psp h Psp = passed (equal refl)
-value-operand psp h Pc = refused
+value-operand psp h Pc = both-refused
 
 register-operand : {l : List Bool} {r s : List ℕ} → RegistersRelated l r s → (o : OlaOperand)
     → Both (Related (operandMark l o)) (bind (targetOf o) (λ i. pass (getD r i 0))) (bind (targetOf o) (λ i. pass (getD s i 0)))
 unfolding bind
-register-operand h Absent = refused
-register-operand h (Immediate w) = refused
+register-operand h Absent = both-refused
+register-operand h (Immediate w) = both-refused
 register-operand h (Register i) = passed (registers-get h i)
-register-operand h (RegisterWithOffset i w) = refused
-register-operand h (RegisterWithFactor i w) = refused
-register-operand h Psp = refused
-register-operand h Pc = refused
+register-operand h (RegisterWithOffset i w) = both-refused
+register-operand h (RegisterWithFactor i w) = both-refused
+register-operand h Psp = both-refused
+register-operand h Pc = both-refused
 
 pub operand-read : (psp : ℕ) {l : List Bool} {r s : List ℕ} → RegistersRelated l r s → (w : Want) (o : OlaOperand)
     → Both (Related (readMark l w o)) (operand psp r w o) (operand psp s w o)

@@ -15,7 +15,7 @@ use Rattle.rules.specs.Opcodes.{Class, field, equality, small, complemen
 use Rattle.rules.specs.Operands.{binaryLength, wantsOf, Operands, operands}
 use Rattle.rules.specs.Step.{Environment, State, Finish, r9, nextPc, readBelow, storeMany, storeOne, onTape, tapeValues, wraps, overlay, writesRegister, writesCells, writesTape, operate}
 use Rattle.rules.specs.Guarded.{registerMark, operandMark, MarkState, cellMark, readSink, marksRegister, marksCell, cleanMany, marksAfter}
-use Rattle.rules.specs.Relations.{Both, refused, passed}
+use Rattle.rules.specs.Relations.{Both, both-refused, passed}
 use Rattle.rules.proofs.Relational.{both-bind, both-require}
 use Rattle.rules.proofs.AlikeStates.{
   Related,
@@ -376,4 +376,4 @@ module _ (e : Environment) (t : MarkState (cells ℕ)) (i : Instruction) {s u : 
 
   pub on-uncovered : (o : Operands) → Agreed e t uncovered i s u o o
   unfolding readSink marksAfter operate
-  on-uncovered o = record { sinks = refl; marks = refl; next = refused }
+  on-uncovered o = record { sinks = refl; marks = refl; next = both-refused }

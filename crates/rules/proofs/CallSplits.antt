@@ -16,7 +16,7 @@ use Rattle.rules.specs.Step.{Environment, State, Ran, overlay, run}
 use Rattle.rules.specs.Guarded.{GuardedState, guardedRun}
 use Rattle.rules.specs.Answers.{outcome, meaning}
 use Rattle.rules.specs.Entry.{Snapshot, GuardedSnapshot, wordOfBits, plainEntry, guardedEntry, environment, stateOf, guardedStateOf, snapshotAfter, guardedSnapshotAfter}
-use Rattle.rules.specs.Calls.{plainRunOf, plainAnswered, guardedRunOf, guardedAnswered, refused, plainCall, guardedCall}
+use Rattle.rules.specs.Calls.{plainRunOf, plainAnswered, guardedRunOf, guardedAnswered, refusedCall, plainCall, guardedCall}
 use Rattle.rules.specs.Relations.{BothRan}
 use Rattle.rules.specs.Soundness.{Sound, GuardedSound}
 use Rattle.rules.specs.Resumption.{resumed, guardedResumed, Resumable, GuardedResumable}
@@ -64,7 +64,7 @@ resumed-behind t h = behind (t .output) (sym (overlay-same (t .output) (t .writt
 plain-passes : (program : List Instruction) (s : Snapshot) (n : ℕ) → plainEntry s ≡ true
     → plainCall (pass program) n s ≡ plainAnswered s (plainRunOf program n s)
 unfolding plainCall
-plain-passes program s n h = ap (λ b. choose b (plainAnswered s (plainRunOf program n s)) (refused BadState s)) h
+plain-passes program s n h = ap (λ b. choose b (plainAnswered s (plainRunOf program n s)) (refusedCall BadState s)) h
 
 module _ (program : List Instruction) (s : Snapshot) (ten : length (s .machine .registers) ≡ 10) (passes : plainEntry s ≡ true) (m n : ℕ) (paused : plainRunOf program m s .answer ≡ Paused) where
   abbrev here : Environment
@@ -117,7 +117,7 @@ guarded-twice g q h l (guarded-behind {u = u} b) =
 guarded-passes : (program : List Instruction) (g : GuardedSnapshot) (n : ℕ) → guardedEntry g ≡ true
     → guardedCall (pass program) n g ≡ guardedAnswered g (guardedRunOf program n g)
 unfolding guardedCall
-guarded-passes program g n h = ap (λ b. choose b (guardedAnswered g (guardedRunOf program n g)) (refused BadState g)) h
+guarded-passes program g n h = ap (λ b. choose b (guardedAnswered g (guardedRunOf program n g)) (refusedCall BadState g)) h
 
 -- as many marks as cells
 mark-count : {e : Environment} {q : GuardedState (cells ℕ)} → GuardedSound e q → count (q .marks .cells) ≡ count (q .plain .cells)
@@ -183,19 +183,19 @@ split-calls (pass program) =
     record { plain = λ m n s ten. plain-go m n s ten (plainEntry s) refl; guarded = λ m n g ten. guarded-go m n g ten (guardedEntry g) refl }
   where
     plain-go : (m n : ℕ) (s : Snapshot) → length (s .machine .registers) ≡ 10 → (b : Bool) → plainEntry s ≡ b
-        → choose b (plainAnswered s (plainRunOf program m s)) (refused BadState s) .answer ≡ outcome 3 []
-        → choose b (plainAnswered s (plainRunOf program (m + n) s)) (refused BadState s)
+        → choose b (plainAnswered s (plainRunOf program m s)) (refusedCall BadState s) .answer ≡ outcome 3 []
+        → choose b (plainAnswered s (plainRunOf program (m + n) s)) (refusedCall BadState s)
         ≡ afterSteps
-        (choose b (plainAnswered s (plainRunOf program m s)) (refused BadState s) .steps)
-        (plainCall (pass program) n (choose b (plainAnswered s (plainRunOf program m s)) (refused BadState s) .left))
+        (choose b (plainAnswered s (plainRunOf program m s)) (refusedCall BadState s) .steps)
+        (plainCall (pass program) n (choose b (plainAnswered s (plainRunOf program m s)) (refusedCall BadState s) .left))
     plain-go m n s ten true k h = plain-split program s ten k m n (paused-answer (plainRunOf program m s .answer) h)
     plain-go m n s ten false k h = absurd (refusal-not-paused BadState h)
 
     guarded-go : (m n : ℕ) (g : GuardedSnapshot) → length (g .plain .machine .registers) ≡ 10 → (b : Bool) → guardedEntry g ≡ b
-        → choose b (guardedAnswered g (guardedRunOf program m g)) (refused BadState g) .answer ≡ outcome 3 []
-        → choose b (guardedAnswered g (guardedRunOf program (m + n) g)) (refused BadState g)
+        → choose b (guardedAnswered g (guardedRunOf program m g)) (refusedCall BadState g) .answer ≡ outcome 3 []
+        → choose b (guardedAnswered g (guardedRunOf program (m + n) g)) (refusedCall BadState g)
         ≡ afterSteps
-        (choose b (guardedAnswered g (guardedRunOf program m g)) (refused BadState g) .steps)
-        (guardedCall (pass program) n (choose b (guardedAnswered g (guardedRunOf program m g)) (refused BadState g) .left))
+        (choose b (guardedAnswered g (guardedRunOf program m g)) (refusedCall BadState g) .steps)
+        (guardedCall (pass program) n (choose b (guardedAnswered g (guardedRunOf program m g)) (refusedCall BadState g) .left))
     guarded-go m n g ten true k h = guarded-split program g ten k m n (paused-answer (guardedRunOf program m g .answer) h)
     guarded-go m n g ten false k h = absurd (refusal-not-paused BadState h)

@@ -18,8 +18,8 @@ use Rattle.rules.specs.Text.{Line, Job, lineFeed, linesOf, frameOfLine, 
 use Rattle.rules.specs.Answers.{refusal, refusalMeaning}
 use Rattle.rules.specs.Cells.{cells}
 use Rattle.rules.specs.Entry.{Snapshot, GuardedSnapshot, plainEntry, guardedEntry, environment, stateOf, guardedStateOf}
-use Rattle.rules.specs.Calls.{Called, refused, jobProgram, jobBudget, plainCall, plainWords, plainText, plainBudgetText, guardedCall, guardedWords, guardedText, guardedBudgetText}
-use Rattle.rules.specs.Solve.{decimal, zeroFields, field, carriedFields, printed, solveStart, solve}
+use Rattle.rules.specs.Calls.{Called, refusedCall, jobProgram, jobBudget, plainCall, plainWords, plainText, plainBudgetText, guardedCall, guardedWords, guardedText, guardedBudgetText}
+use Rattle.rules.specs.Solve.{decimal, zeroFields, spaced, carriedFields, printed, solveStart, solve}
 use Rattle.rules.specs.MalformedFrames.{MalformedAt, here, further, Earliest, this, later, EarliestIsLeast, Numbered, numberedWords, OneAmongWords, numberedText, jobFrames, malformedJob, numberedBudgetText, Carried, CarriesEarliest, CallsCarryEarliest}
 use Rattle.rules.proofs.BoolLaws.{false-true}
 use Rattle.rules.proofs.ResultLaws.{refuse-pass}
@@ -159,17 +159,17 @@ budget-text-earliest text =
 -- Whole calls
 
 -- a call that is refused as its program is
-as-loaded : (f : Numbered) {S : Type 0} (s : S) (g : Refusal) → LoadsEarliest f {A = List Instruction} (refuse g) → CarriesEarliest f s (refused g s)
+as-loaded : (f : Numbered) {S : Type 0} (s : S) (g : Refusal) → LoadsEarliest f {A = List Instruction} (refuse g) → CarriesEarliest f s (refusedCall g s)
 unfolding refusalMeaning
 as-loaded f s g h =
     record {
       carries = λ values e. let z = malformed-refusal g values e in (z .0, z .1, h .carries (z .0) (ap refuse (z .2)));
-      refuses = λ n k. let e : refuse g ≡ refuse (MalformedFrame n) = h .refuses n k in let z : g ≡ MalformedFrame n = cc in ap (λ g. refused g s) z;
+      refuses = λ n k. let e : refuse g ≡ refuse (MalformedFrame n) = h .refuses n k in let z : g ≡ MalformedFrame n = cc in ap (λ g. refusedCall g s) z;
     }
 
 -- and one whose program is loaded: the state is unfit, or the run gets past the entry
 unfit-or-run : {S : Type 0} (b : Bool) (ran : Called S) (s : S) → isPastEntry (ran .answer) ≡ true → (values : List ℕ)
-    → choose b ran (refused BadState s) .answer ≡ refusal 2 values → ⊥
+    → choose b ran (refusedCall BadState s) .answer ≡ refusal 2 values → ⊥
 unfolding refusalMeaning
 unfit-or-run true ran s h values e = false-true (sym (ap isPastEntry e) ∙ h)
 unfit-or-run false ran s h values e = let z : _≡_ {A = ℕ} 3 2 = cc in omega arith
@@ -196,11 +196,11 @@ budget-text-carries : (text : List ℕ) (s : Snapshot) → CarriesEarliest (numb
 unfolding plainBudgetText
 budget-text-carries text s = plain-carries _ _ (budget-text-earliest text) (jobBudget (loadBudgetText text)) s
 
-solve-prints : (text : List ℕ) (n : ℕ) → Carried (numberedBudgetText text) n → solve text ≡ decimal 2 ++ (zeroFields ++ (field n ++ (lineFeed ∷ [])))
+solve-prints : (text : List ℕ) (n : ℕ) → Carried (numberedBudgetText text) n → solve text ≡ decimal 2 ++ (zeroFields ++ (spaced n ++ (lineFeed ∷ [])))
 unfolding solve printed carriedFields
 solve-prints text n k =
     ap printed (budget-text-carries text solveStart .refuses n k)
-    ∙ ap (λ (carried : List ℕ). decimal 2 ++ (zeroFields ++ (carried ++ (lineFeed ∷ [])))) (append-nil (field n))
+    ∙ ap (λ (carried : List ℕ). decimal 2 ++ (zeroFields ++ (carried ++ (lineFeed ∷ [])))) (append-nil (spaced n))
 
 pub calls-carry-earliest : CallsCarryEarliest
 unfolding plainWords plainText guardedWords guardedText guardedBudgetText

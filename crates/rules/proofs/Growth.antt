@@ -16,7 +16,7 @@ use Rattle.rules.specs.Step.{Environment, State, Next, storeMany, operat
 use Rattle.rules.specs.Guarded.{GuardedState, GuardedNext, guardedRest, guardedStep, onGuardedStep, guardedRun}
 use Rattle.rules.specs.Soundness.{Sound}
 use Rattle.rules.proofs.CellLaws.{rising-put, count-put}
-use Rattle.rules.proofs.Passing.{Passing, refused, passed, passing-require, passing-bind, passing-any, passing-both, PassingGuarded, refused-guarded, sink-guarded, passed-guarded, passing-after, passing-after-any, passing-guard, finish-keeps}
+use Rattle.rules.proofs.Passing.{Passing, passing-refused, passed, passing-require, passing-bind, passing-any, passing-both, PassingGuarded, refused-guarded, sink-guarded, passed-guarded, passing-after, passing-after-any, passing-guard, finish-keeps}
 use Rattle.rules.proofs.PlainSoundness.{operate-keeps, capacity-sound}
 
 pub record Grown (s t : State (cells ℕ)) : Type 0 where
@@ -74,7 +74,7 @@ module _ (e : Environment) (i : Instruction) (s : State (cells ℕ)) (o : Operan
   operate-grows tapeStore = passing-any _ _ λ vs. passed (record { cells = le _; tape = longer vs })
   operate-grows contractCall = passing-any _ _ λ vs. passed (record { cells = le _; tape = longer _ })
   operate-grows end = passed (record { cells = le _; tape = le _ })
-  operate-grows uncovered = refused
+  operate-grows uncovered = passing-refused
 
 -- Step and run, from sound states
 
@@ -96,7 +96,7 @@ step-grows e s h =
 
 on-step-grows : (e : Environment) (s : State (cells ℕ)) {x : Result (Next (cells ℕ))} (k : State (cells ℕ) → Ran (State (cells ℕ)))
     → Passing (λ n. SoundGrown e s (n .state)) x → ((t : State (cells ℕ)) → Sound e t → Grown t (k t .state)) → Grown s (onStep (cells ℕ) s x k .state)
-on-step-grows e s k refused g = grown-same s
+on-step-grows e s k passing-refused g = grown-same s
 on-step-grows e s k (passed {a = n} h) g =
     finish-keeps (Grown s) (n .finish) (n .state .clk) (n .state) k (h .1) (grown-twice (h .1) (g (n .state) (h .0)))
 

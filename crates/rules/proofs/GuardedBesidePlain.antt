@@ -26,13 +26,13 @@ module _ (memory : Memory ℕ) where
   -- One step: the marked one stops at a sink, or does what the plain one does
   pub data Beside : GuardedResult (GuardedNext memory) → Result (Next memory) → Type 0 where
     at-sink : {r : Result (Next memory)} → Beside sink r
-    refused : {f : Refusal} → Beside (refuses f) (refuse f)
+    beside-refused : {f : Refusal} → Beside (refuses f) (refuse f)
     passed : {n : GuardedNext memory} → Beside (passes n) (pass (n .next))
 
   beside-after : {A : Type 0} (r : Result A) (k : A → GuardedResult (GuardedNext memory)) (l : A → Result (Next memory)) → ((a : A) → Beside (k a) (l a))
       → Beside (after r k) (bind r l)
   unfolding after bind
-  beside-after (refuse f) k l h = refused
+  beside-after (refuse f) k l h = beside-refused
   beside-after (pass a) k l h = h a
 
   beside-guard : (b : Bool) {x : GuardedResult (GuardedNext memory)} {y : Result (Next memory)} → Beside x y → Beside (guard b x) y
@@ -44,7 +44,7 @@ module _ (memory : Memory ℕ) where
       → Beside (after (require b NoCapacity (pass n)) (λ n. passes (record { next = n; marks = t }))) (require b NoCapacity (pass n))
   unfolding after require
   beside-capacity true n t = passed
-  beside-capacity false n t = refused
+  beside-capacity false n t = beside-refused
 
   pub step-beside : (e : Environment) (q : GuardedState memory) → Beside (guardedStep memory e q) (step memory e (q .plain))
   unfolding guardedStep guardedRest step
@@ -109,7 +109,7 @@ module _ (memory : Memory ℕ) where
       → ((r : GuardedState memory) → RunBeside n (guardedRun memory e n r) (run memory e n (r .plain)) (λ k. run memory e k (r .plain)))
       → RunBeside (suc n) (onGuardedStep memory q x (guardedRun memory e n)) (onStep memory (q .plain) y (run memory e n)) (cutAt e (q .plain) y)
   step-case e n q x y at-sink h = record { transparent = λ a. absurd (a refl); early = λ a. (omega arith, refl) }
-  step-case e n q x y (refused {f}) h = same-run (suc n) _ (refused-not-sink f)
+  step-case e n q x y (beside-refused {f}) h = same-run (suc n) _ (refused-not-sink f)
   step-case e n q x y (passed {n = m}) h =
       finish-case e (q .plain) n (record { plain = m .next .state; marks = m .marks }) (m .next .finish) (h _)
 

@@ -99,7 +99,7 @@ use Rattle.rules.proofs.WrittenPlaces.{
   sigcheck,
   event,
   nothing-written,
-  Kind,
+  WritesBy,
   of-both,
   of-one,
   of-mload,
@@ -282,7 +282,7 @@ module _ (t : MarkState (cells ℕ)) (i : Instruction) (s : State (cells ℕ)) (
       → cellMark (cells ℕ) (put (t .cells) d v) a ≡ cellMark (cells ℕ) (t .cells) a
   unwritten-cell {c} d v w a h = other-mark (t .cells) d v a (λ e. h (subst (λ a. Writes s o c (cell a)) e w))
 
-  kept-computed : {c : OlaOpcode} → Kind c → (x : Place) → (Writes s o c x → ⊥) → after c x ≡ markingOf t x
+  kept-computed : {c : OlaOpcode} → WritesBy c → (x : Place) → (Writes s o c x → ⊥) → after c x ≡ markingOf t x
   unfolding marksAfter classOf
   kept-computed (of-both f) (register r) h = rw (after-both f) (unwritten-register (o .dst) _ (both f) r h)
   kept-computed (of-both f) (cell a) h = rw (after-both f)

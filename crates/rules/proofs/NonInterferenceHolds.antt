@@ -16,7 +16,7 @@ use Rattle.rules.specs.Step.{Ran}
 use Rattle.rules.specs.Guarded.{GuardedState, guardedRun}
 use Rattle.rules.specs.Answers.{Meaning, meaning}
 use Rattle.rules.specs.Entry.{GuardedSnapshot, lowBits, all, plainEntry, marksEntry, guardedEntry, environment, stateOf, guardedStateOf, snapshotAfter, guardedSnapshotAfter}
-use Rattle.rules.specs.Calls.{Called, refused, plainRunOf, guardedRunOf, plainAnswered, guardedAnswered, plainCall, guardedCall, jobBudget, jobProgram, plainWords, plainText, guardedWords, guardedText, guardedBudgetText}
+use Rattle.rules.specs.Calls.{Called, refusedCall, plainRunOf, guardedRunOf, plainAnswered, guardedAnswered, plainCall, guardedCall, jobBudget, jobProgram, plainWords, plainText, guardedWords, guardedText, guardedBudgetText}
 use Rattle.rules.specs.Relations.{BothRan}
 use Rattle.rules.specs.MarkRules.{Place, register, cell, Marking}
 use Rattle.rules.specs.SinkRules.{Comes}
@@ -68,8 +68,8 @@ module _ (program : List Instruction) (budget : ℕ) (g h : GuardedSnapshot) (al
 
   by-entry : (x : Bool) → guardedEntry g ≡ x
       → SameCalls
-      (choose x (guardedAnswered g (guardedRunOf program budget g)) (refused BadState g))
-      (choose x (guardedAnswered h (guardedRunOf program budget h)) (refused BadState h))
+      (choose x (guardedAnswered g (guardedRunOf program budget g)) (refusedCall BadState g))
+      (choose x (guardedAnswered h (guardedRunOf program budget h)) (refusedCall BadState h))
   by-entry true t = answers-same g h al _ _ (runs-same t)
   by-entry false t = record { answer = refl; steps = refl; left = al }
 
@@ -78,7 +78,7 @@ calls-same : (program : Result (List Instruction)) (budget : ℕ) (g h : Guarded
 unfolding guardedCall
 calls-same (refuse f) budget g h al b c = record { answer = refl; steps = refl; left = al }
 calls-same (pass program) budget g h al b c =
-    subst (λ x. SameCalls (guardedCall (pass program) budget g) (choose x (guardedAnswered h (guardedRunOf program budget h)) (refused BadState h)))
+    subst (λ x. SameCalls (guardedCall (pass program) budget g) (choose x (guardedAnswered h (guardedRunOf program budget h)) (refusedCall BadState h)))
     (guardedEntry-same g h (close al b c) b c)
     (by-entry program budget g h al b c (guardedEntry g) refl)
 
@@ -99,17 +99,17 @@ entry-unfit g t = rw t (and-with-false (plainEntry (g .plain)))
 module _ (program : List Instruction) (budget : ℕ) (g : GuardedSnapshot) where
   call-run : guardedEntry g ≡ true → guardedCall (pass program) budget g ≡ guardedAnswered g (guardedRunOf program budget g)
   unfolding guardedCall
-  call-run t = ap (λ b. choose b (guardedAnswered g (guardedRunOf program budget g)) (refused BadState g)) t
+  call-run t = ap (λ b. choose b (guardedAnswered g (guardedRunOf program budget g)) (refusedCall BadState g)) t
 
   plain-run : (k : ℕ) → guardedEntry g ≡ true → plainCall (pass program) k (g .plain) ≡ plainAnswered (g .plain) (plainRunOf program k (g .plain))
   unfolding plainCall
-  plain-run k t = ap (λ b. choose b (plainAnswered (g .plain) (plainRunOf program k (g .plain))) (refused BadState (g .plain))) (entry-plain g t)
+  plain-run k t = ap (λ b. choose b (plainAnswered (g .plain) (plainRunOf program k (g .plain))) (refusedCall BadState (g .plain))) (entry-plain g t)
 
   sink-enters : MeetsSink (guardedCall (pass program) budget g) → guardedEntry g ≡ true
   unfolding guardedCall
   sink-enters a = go (guardedEntry g) a
     where
-      go : (b : Bool) → MeetsSink (choose b (guardedAnswered g (guardedRunOf program budget g)) (refused BadState g)) → b ≡ true
+      go : (b : Bool) → MeetsSink (choose b (guardedAnswered g (guardedRunOf program budget g)) (refusedCall BadState g)) → b ≡ true
       go true h = refl
       go false h = absurd (refusal-not-sink BadState h)
 
@@ -129,8 +129,8 @@ transparent (refuse f) budget g t h = refl
 transparent (pass program) budget g t h = go (guardedEntry g) refl
   where
     go : (b : Bool) → guardedEntry g ≡ b
-        → unmarked (choose (guardedEntry g) (guardedAnswered g (guardedRunOf program budget g)) (refused BadState g))
-        ≡ choose (plainEntry (g .plain)) (plainAnswered (g .plain) (plainRunOf program budget (g .plain))) (refused BadState (g .plain))
+        → unmarked (choose (guardedEntry g) (guardedAnswered g (guardedRunOf program budget g)) (refusedCall BadState g))
+        ≡ choose (plainEntry (g .plain)) (plainAnswered (g .plain) (plainRunOf program budget (g .plain))) (refusedCall BadState (g .plain))
     go true e =
         ap unmarked (call-run program budget g e)
         ∙ (ap (plainAnswered (g .plain))
@@ -138,15 +138,15 @@ transparent (pass program) budget g t h = go (guardedEntry g) refl
         (λ a. h (ap (λ (c : Called GuardedSnapshot). c .answer) (call-run program budget g e) ∙ (ap meaning a ∙ sink-meaning))))
         ∙ sym (plain-run program budget g budget e))
     go false e =
-        ap (λ b. unmarked (choose b (guardedAnswered g (guardedRunOf program budget g)) (refused BadState g))) e
-        ∙ ap (λ b. choose b (plainAnswered (g .plain) (plainRunOf program budget (g .plain))) (refused BadState (g .plain))) (sym e ∙ entry-split g t)
+        ap (λ b. unmarked (choose b (guardedAnswered g (guardedRunOf program budget g)) (refusedCall BadState g))) e
+        ∙ ap (λ b. choose b (plainAnswered (g .plain) (plainRunOf program budget (g .plain))) (refusedCall BadState (g .plain))) (sym e ∙ entry-split g t)
 
 unfit : (program : Result (List Instruction)) (budget : ℕ) (g : GuardedSnapshot) → marksEntry g ≡ false → {instructions : List Instruction}
-    → program ≡ pass instructions → guardedCall program budget g ≡ refused BadState g
+    → program ≡ pass instructions → guardedCall program budget g ≡ refusedCall BadState g
 unfolding guardedCall
 unfit program budget g t {instructions} h =
     ap (λ x. guardedCall x budget g) h
-    ∙ ap (λ b. choose b (guardedAnswered g (guardedRunOf instructions budget g)) (refused BadState g)) (entry-unfit g t)
+    ∙ ap (λ b. choose b (guardedAnswered g (guardedRunOf instructions budget g)) (refusedCall BadState g)) (entry-unfit g t)
 
 stops-early : (program : Result (List Instruction)) (budget : ℕ) (g : GuardedSnapshot) (k : ℕ) → SinkAfter k (guardedCall program budget g)
     → (k < budget) × (plainCall program k (g .plain) ≡ pausedAfter k (guardedCall program budget g .left .plain))

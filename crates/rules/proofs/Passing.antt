@@ -9,7 +9,7 @@ use Rattle.rules.specs.Results.{Result, refuse, pass, require, bind, Gua
 use Rattle.rules.specs.Step.{Finish, goesOn, ends, calls, delegates, Ran, onClock, onFinish}
 
 pub data Passing {A : Type 0} (P : A → Type 0) : Result A → Type 0 where
-  refused : {f : Refusal} → Passing P (refuse f)
+  passing-refused : {f : Refusal} → Passing P (refuse f)
   passed : {a : A} → P a → Passing P (pass a)
 
 pub passing-require : {A : Type 0} {P : A → Type 0} {b : Bool} (f : Refusal) {r : Result A} → (b ≡ true → Passing P r) → Passing P (require b f r)
@@ -18,12 +18,12 @@ passing-require {P = P} {b} f {r} h = go b h
   where
     go : (b : Bool) → (b ≡ true → Passing P r) → Passing P (require b f r)
     go true h = h refl
-    go false h = refused
+    go false h = passing-refused
 
 pub passing-bind : {A B : Type 0} {Q : A → Type 0} {P : B → Type 0} {r : Result A} (k : A → Result B) → Passing Q r
     → ((a : A) → Q a → Passing P (k a)) → Passing P (bind r k)
 unfolding bind
-passing-bind k refused h = refused
+passing-bind k passing-refused h = passing-refused
 passing-bind k (passed {a} q) h = h a q
 
 -- whatever passes first
@@ -32,11 +32,11 @@ unfolding bind
 passing-any {P = P} r k h = go r
   where
     go : (r : Result _) → Passing P (bind r k)
-    go (refuse f) = refused
+    go (refuse f) = passing-refused
     go (pass a) = h a
 
 pub passing-both : {A : Type 0} {P Q : A → Type 0} {r : Result A} → Passing P r → Passing Q r → Passing (λ a. P a × Q a) r
-passing-both refused k = refused
+passing-both passing-refused k = passing-refused
 passing-both (passed h) (passed k) = passed (h, k)
 
 pub passing-at : {A : Type 0} {P : A → Type 0} {r : Result A} {a : A} → Passing P r → r ≡ pass a → P a
@@ -54,7 +54,7 @@ pub data PassingGuarded {A : Type 0} (P : A → Type 0) : GuardedResult A → Ty
 pub passing-after : {A B : Type 0} {Q : A → Type 0} {P : B → Type 0} {r : Result A} (k : A → GuardedResult B) → Passing Q r
     → ((a : A) → Q a → PassingGuarded P (k a)) → PassingGuarded P (after r k)
 unfolding after
-passing-after k refused h = refused-guarded
+passing-after k passing-refused h = refused-guarded
 passing-after k (passed {a} q) h = h a q
 
 pub passing-after-any : {A B : Type 0} {P : B → Type 0} (r : Result A) (k : A → GuardedResult B) → ((a : A) → PassingGuarded P (k a))

@@ -19,7 +19,7 @@ use Rattle.rules.specs.Operands.{binaryLength, instructionAt, fetch, Wan
 use Rattle.rules.specs.Step.{Environment, State, Next, Finish, goesOn, ends, calls, delegates, Ran, onClock, onFinish, r9, slotValue, read, readBelow, readMany, readSpan, storeMany, operate, capacity, step, onStep, run}
 use Rattle.rules.specs.Guarded.{MarkState, GuardedState, GuardedNext, guardedRest, guardedStep, onGuardedStep, guardedRun}
 use Rattle.rules.specs.Answers.{Meaning, outcome, refusal, refusalMeaning, meaning}
-use Rattle.rules.proofs.Refusing.{Refusing, refused, passed, RefusingGuarded, refused-guarded, sink-guarded, passed-guarded, refusing-require, refusing-choose, refusing-bind, refusing-after, refusing-guard}
+use Rattle.rules.proofs.Refusing.{Refusing, refusing-refused, passed, RefusingGuarded, refused-guarded, sink-guarded, passed-guarded, refusing-require, refusing-choose, refusing-bind, refusing-after, refusing-guard}
 
 -- an outcome, or a refusal above 3
 abbrev pub isPastEntry : Meaning → Bool
@@ -36,8 +36,8 @@ Past a = isPastEntry (meaning a) ≡ true
 
 found : (is : List Instruction) (pc : ℕ) → Refusing AtStep (instructionAt is pc)
 unfolding instructionAt refusalMeaning
-found [] pc = refused refl
-found (i ∷ is) pc = refusing-choose (eqb pc 0) passed (refusing-choose (ltb pc (binaryLength i)) (refused {f = NoInstruction} refl) (found is (pc - binaryLength i)))
+found [] pc = refusing-refused refl
+found (i ∷ is) pc = refusing-choose (eqb pc 0) passed (refusing-choose (ltb pc (binaryLength i)) (refusing-refused {f = NoInstruction} refl) (found is (pc - binaryLength i)))
 
 fetched : (is : List Instruction) (pc : ℕ) → Refusing AtStep (fetch is pc)
 unfolding fetch refusalMeaning
@@ -51,33 +51,33 @@ in-field f a b = refusing-require _ _ refl (refusing-require _ _ refl passed)
 
 valued : (psp : ℕ) (registers : List ℕ) (o : OlaOperand) → Refusing AtStep (valueOf psp registers o)
 unfolding valueOf refusalMeaning
-valued psp registers Absent = refused refl
+valued psp registers Absent = refusing-refused refl
 valued psp registers (Immediate w) = passed
 valued psp registers (Register r) = passed
 valued psp registers (RegisterWithOffset r w) = in-field fieldAdd _ _
 valued psp registers (RegisterWithFactor r w) = in-field fieldMul _ _
 valued psp registers Psp = passed
-valued psp registers Pc = refused refl
+valued psp registers Pc = refusing-refused refl
 
 targeted : (o : OlaOperand) → Refusing AtStep (targetOf o)
 unfolding refusalMeaning
-targeted Absent = refused refl
-targeted (Immediate w) = refused refl
+targeted Absent = refusing-refused refl
+targeted (Immediate w) = refusing-refused refl
 targeted (Register r) = passed
-targeted (RegisterWithOffset r w) = refused refl
-targeted (RegisterWithFactor r w) = refused refl
-targeted Psp = refused refl
-targeted Pc = refused refl
+targeted (RegisterWithOffset r w) = refusing-refused refl
+targeted (RegisterWithFactor r w) = refusing-refused refl
+targeted Psp = refusing-refused refl
+targeted Pc = refusing-refused refl
 
 lacked : (o : OlaOperand) → Refusing AtStep (absence o)
 unfolding refusalMeaning
 lacked Absent = passed
-lacked (Immediate w) = refused refl
-lacked (Register r) = refused refl
-lacked (RegisterWithOffset r w) = refused refl
-lacked (RegisterWithFactor r w) = refused refl
-lacked Psp = refused refl
-lacked Pc = refused refl
+lacked (Immediate w) = refusing-refused refl
+lacked (Register r) = refusing-refused refl
+lacked (RegisterWithOffset r w) = refusing-refused refl
+lacked (RegisterWithFactor r w) = refusing-refused refl
+lacked Psp = refusing-refused refl
+lacked Pc = refusing-refused refl
 
 operand-read : (psp : ℕ) (registers : List ℕ) (w : Want) (o : OlaOperand) → Refusing AtStep (operand psp registers w o)
 unfolding operand
@@ -102,7 +102,7 @@ module _ (memory : Memory ℕ) where
 
   slot-read : (s : Slot ℕ) → Refusing AtStep (slotValue memory s)
   unfolding refusalMeaning
-  slot-read absent = refused refl
+  slot-read absent = refusing-refused refl
   slot-read (present v) = passed
 
   cell-read : (c : Mem) (a : ℕ) → Refusing AtStep (read memory c a)
@@ -150,7 +150,7 @@ module _ (memory : Memory ℕ) where
     operated tapeStore i s o = refusing-bind _ (span-read _ _ _) λ vs. passed
     operated contractCall i s o = refusing-bind _ (span-read _ _ 4) λ vs. passed
     operated end i s o = passed
-    operated uncovered i s o = refused refl
+    operated uncovered i s o = refusing-refused refl
 
     fitted : (n : Next memory) → Refusing AtStep (capacity memory e n)
     unfolding refusalMeaning
@@ -198,7 +198,7 @@ module _ (memory : Memory ℕ) (e : Environment) where
   on-step-past : (s : State memory) {r : Result (Next memory)} (k : State memory → Ran (State memory)) → Refusing AtStep r
       → ((t : State memory) → Past (k t .answer)) → Past (onStep memory s r k .answer)
   unfolding meaning
-  on-step-past s k (refused h) q = h
+  on-step-past s k (refusing-refused h) q = h
   on-step-past s k (passed {a = n}) q = finish-past (n .finish) (n .state .clk) (n .state) k (q (n .state))
 
   pub run-past : (budget : ℕ) (s : State memory) → Past (run memory e budget s .answer)

@@ -13,7 +13,7 @@ use Rattle.rules.specs.PlainMap.{PlainMap, mapPut, plainMap}
 use Rattle.rules.specs.Opcodes.{Class, field, equality, small, complement, move, assert, rangeCheck, jump, conditionalJump, call, return, load, store, tapeLoad, tapeStore, contractCall, end, uncovered, classOf}
 use Rattle.rules.specs.Operands.{Operands}
 use Rattle.rules.specs.Step.{Environment, State, Next, slotValue, r9, read, readBelow, readMany, readSpan, storeMany, operate, fits, capacity, step, Ran, onStep, run}
-use Rattle.rules.specs.Relations.{Both, refused, passed, BothRan}
+use Rattle.rules.specs.Relations.{Both, both-refused, passed, BothRan}
 use Rattle.rules.specs.MapAgreement.{mapOf, withMap, SameMemory, SameState, SameNext}
 use Rattle.rules.proofs.CellLaws.{get-put, rising-put, count-put}
 use Rattle.rules.proofs.Relational.{both-bind, both-bind-equal, both-require, both-finish}
@@ -107,7 +107,7 @@ module _ (e : Environment) (i : Instruction) (s : State (cells ℕ)) (m : PlainM
   same-operate tapeStore = both-bind-equal _ _ (same-span h _ _) λ vs. moved (same-with h) refl
   same-operate contractCall = both-bind-equal _ _ (same-span h _ 4) λ vs. moved (same-with h) refl
   same-operate end = moved (same-with h) refl
-  same-operate uncovered = refused
+  same-operate uncovered = both-refused
 
 same-fits : (e : Environment) {s : State (cells ℕ)} {t : State (plainMap ℕ)} → SameState s t → fits (cells ℕ) e s ≡ fits (plainMap ℕ) e t
 same-fits e {s} {t} h = rw (h .cells .size, h .tape, h .output)
@@ -133,7 +133,7 @@ same-on-step : {s : State (cells ℕ)} {t : State (plainMap ℕ)} {x : Result (N
     (k : State (cells ℕ) → Ran (State (cells ℕ))) (l : State (plainMap ℕ) → Ran (State (plainMap ℕ))) → SameState s t → Both SameNext x y
     → ((s : State (cells ℕ)) (t : State (plainMap ℕ)) → SameState s t → BothRan SameState (k s) (l t))
     → BothRan SameState (onStep (cells ℕ) s x k) (onStep (plainMap ℕ) t y l)
-same-on-step k l h refused q = record { answer = refl; steps = refl; state = h }
+same-on-step k l h both-refused q = record { answer = refl; steps = refl; state = h }
 same-on-step k l h (passed r) q = both-finish SameState _ _ k l (r .finish) (r .state .clk) (r .state) (q _ _ (r .state))
 
 pub same-run : (e : Environment) (budget : ℕ) {s : State (cells ℕ)} {t : State (plainMap ℕ)} → SameState s t

@@ -18,7 +18,7 @@ use Rattle.rules.specs.Step.{Environment, State, Next, storeMany, writes
 use Rattle.rules.specs.Soundness.{SoundCells, Sound}
 use Rattle.rules.proofs.BoolLaws.{and-left, and-right}
 use Rattle.rules.proofs.CellLaws.{get-put, rising-put}
-use Rattle.rules.proofs.Passing.{Passing, refused, passed, passing-require, passing-bind, passing-any, finish-keeps}
+use Rattle.rules.proofs.Passing.{Passing, passing-refused, passed, passing-require, passing-bind, passing-any, finish-keeps}
 use Rattle.rules.proofs.OverlayLaws.{used-overlay, length-overlay-le}
 
 -- Cells
@@ -93,7 +93,7 @@ module _ (e : Environment) (i : Instruction) (s : State (cells ℕ)) (o : Operan
   operate-keeps contractCall =
       passing-any _ _ λ vs. passed (record { ten = h .ten; cells = h .cells; writtenFits = λ _. h .writtenFits; first = refl })
   operate-keeps end = passed (record { ten = h .ten; cells = h .cells; writtenFits = λ _. h .writtenFits; first = h .first })
-  operate-keeps uncovered = refused
+  operate-keeps uncovered = passing-refused
 
 pub capacity-sound : (e : Environment) (n : Next (cells ℕ)) → Kept e (n .state) → Passing (λ n. Sound e (n .state)) (capacity (cells ℕ) e n)
 capacity-sound e n k =
@@ -130,7 +130,7 @@ step-sound e s h =
 
 on-step-sound : (e : Environment) (s : State (cells ℕ)) {r : Result (Next (cells ℕ))} (k : State (cells ℕ) → Ran (State (cells ℕ))) → Sound e s
     → Passing (λ n. Sound e (n .state)) r → ((t : State (cells ℕ)) → Sound e t → Sound e (k t .state)) → Sound e (onStep (cells ℕ) s r k .state)
-on-step-sound e s k h refused q = h
+on-step-sound e s k h passing-refused q = h
 on-step-sound e s k h (passed {a = n} a) q = finish-keeps (Sound e) (n .finish) (n .state .clk) (n .state) k a (q (n .state) a)
 
 pub run-sound : (e : Environment) (budget : ℕ) (s : State (cells ℕ)) → Sound e s → Sound e (run (cells ℕ) e budget s .state)

@@ -5,7 +5,7 @@ use Rattle.rules.specs.Numbers.{choose}
 use Rattle.rules.specs.Results.{Result, refuse, pass, require, bind, GuardedResult, refuses, sink, passes, after, guard}
 
 pub data Refusing (P : Refusal → Type 0) {A : Type 0} : Result A → Type 0 where
-  refused : {f : Refusal} → P f → Refusing P (refuse f)
+  refusing-refused : {f : Refusal} → P f → Refusing P (refuse f)
   passed : {a : A} → Refusing P (pass a)
 
 -- of a guarded step, which may also stop at a sink
@@ -18,7 +18,7 @@ module _ {P : Refusal → Type 0} {A : Type 0} where
   pub refusing-require : (b : Bool) (f : Refusal) {r : Result A} → P f → Refusing P r → Refusing P (require b f r)
   unfolding require
   refusing-require true f p h = h
-  refusing-require false f p h = refused p
+  refusing-require false f p h = refusing-refused p
 
   pub refusing-choose : {r q : Result A} (b : Bool) → Refusing P r → Refusing P q → Refusing P (choose b r q)
   refusing-choose true h k = h
@@ -26,13 +26,13 @@ module _ {P : Refusal → Type 0} {A : Type 0} where
 
   pub refusing-bind : {B : Type 0} {r : Result B} (k : B → Result A) → Refusing P r → ((b : B) → Refusing P (k b)) → Refusing P (bind r k)
   unfolding bind
-  refusing-bind k (refused p) h = refused p
+  refusing-bind k (refusing-refused p) h = refusing-refused p
   refusing-bind k (passed {a}) h = h a
 
   pub refusing-after : {B : Type 0} {r : Result B} (k : B → GuardedResult A) → Refusing P r → ((b : B) → RefusingGuarded P (k b))
       → RefusingGuarded P (after r k)
   unfolding after
-  refusing-after k (refused p) h = refused-guarded p
+  refusing-after k (refusing-refused p) h = refused-guarded p
   refusing-after k (passed {a}) h = h a
 
   pub refusing-guard : {r : GuardedResult A} (b : Bool) → RefusingGuarded P r → RefusingGuarded P (guard b r)

@@ -7,12 +7,12 @@ use Rattle.rules.specs.declared.Refusal.{Refusal}
 use Rattle.rules.specs.Numbers.{clockEnd}
 use Rattle.rules.specs.Results.{Result, refuse, pass, require, bind, GuardedResult, after, guard}
 use Rattle.rules.specs.Step.{Finish, goesOn, ends, calls, delegates, Ran, onClock, onFinish}
-use Rattle.rules.specs.Relations.{Both, refused, passed, BothGuarded, refused-alike, sink-alike, BothRan}
+use Rattle.rules.specs.Relations.{Both, both-refused, passed, BothGuarded, refused-alike, sink-alike, BothRan}
 
 -- Results
 
 pub both-same : {A : Type 0} {R : A → A → Type 0} → ((a : A) → R a a) → (r : Result A) → Both R r r
-both-same h (refuse f) = refused
+both-same h (refuse f) = both-refused
 both-same h (pass a) = passed (h a)
 
 pub both-equal : {A : Type 0} {r q : Result A} → r ≡ q → Both (λ a b. a ≡ b) r q
@@ -21,7 +21,7 @@ both-equal {r = r} e = subst (Both (λ a b. a ≡ b) r) e (both-same (λ a. refl
 pub both-bind : {A B C D : Type 0} {R : A → B → Type 0} {S : C → D → Type 0} {r : Result A} {q : Result B} (f : A → Result C) (g : B → Result D)
     → Both R r q → ((a : A) (b : B) → R a b → Both S (f a) (g b)) → Both S (bind r f) (bind q g)
 unfolding bind
-both-bind f g refused h = refused
+both-bind f g both-refused h = both-refused
 both-bind f g (passed {a} {b} x) h = h a b x
 
 -- after equal results the rest has one value to go on with
@@ -31,7 +31,7 @@ unfolding bind
 both-bind-equal {S = S} {r = r} f g e h = subst (λ q. Both S (bind r f) (bind q g)) e (go r)
   where
     go : (r : Result _) → Both S (bind r f) (bind r g)
-    go (refuse x) = refused
+    go (refuse x) = both-refused
     go (pass a) = h a
 
 -- one test, equal on both sides, before related results
@@ -42,14 +42,14 @@ both-require {R = R} {b = b} f {r} {q} e h = subst (λ c. Both R (require b f r)
   where
     go : (b : Bool) → Both R (require b f r) (require b f q)
     go true = h
-    go false = refused
+    go false = both-refused
 
 -- Guarded steps
 
 pub both-after : {A B C D : Type 0} {R : A → B → Type 0} {S : C → D → Type 0} {r : Result A} {q : Result B} (f : A → GuardedResult C)
     (g : B → GuardedResult D) → Both R r q → ((a : A) (b : B) → R a b → BothGuarded S (f a) (g b)) → BothGuarded S (after r f) (after q g)
 unfolding after
-both-after f g refused h = refused-alike
+both-after f g both-refused h = refused-alike
 both-after f g (passed {a} {b} x) h = h a b x
 
 pub both-after-equal : {A C D : Type 0} {S : C → D → Type 0} {r q : Result A} (f : A → GuardedResult C) (g : A → GuardedResult D)

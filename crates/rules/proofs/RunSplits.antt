@@ -29,8 +29,8 @@ calling a b c d e = let z : _≡_ {A = ℕ} 0 1 = cc in omega arith
 delegating : (a b c d : ℕ) → DelegateCalling a b c d ≡ Paused → ⊥
 delegating a b c d e = let z : _≡_ {A = ℕ} 0 1 = cc in omega arith
 
-refused : (f : Refusal) → Refused f ≡ Paused → ⊥
-refused f e = let z : _≡_ {A = ℕ} 0 1 = cc in omega arith
+refused-not-paused : (f : Refusal) → Refused f ≡ Paused → ⊥
+refused-not-paused f e = let z : _≡_ {A = ℕ} 0 1 = cc in omega arith
 
 at-sink : MarkedSink ≡ Paused → ⊥
 at-sink e = let z : _≡_ {A = ℕ} 0 1 = cc in omega arith
@@ -43,7 +43,7 @@ module _ {S : Type 0} where
   clock-splits true s r whole rest h e =
       ap afterStep (h e)
       ∙ (λ i. record { answer = rest (r .state) .answer; steps = sym (suc-add (r .steps) (rest (r .state) .steps)) i; state = rest (r .state) .state })
-  clock-splits false s r whole rest h e = absurd (refused ClockEnd e)
+  clock-splits false s r whole rest h e = absurd (refused-not-paused ClockEnd e)
 
   finish-splits : (f : Finish) (clk : ℕ) (s : S) (k whole rest : S → Ran S)
       → ((s : S) → k s .answer ≡ Paused → whole s ≡ joined (k s) (rest (k s .state)))
@@ -57,7 +57,7 @@ module _ {S : Type 0} where
   clock-goes-on : (P : S → Type 0) (b : Bool) (s : S) (r : Ran S) → (b ≡ true → r .answer ≡ Paused → P (r .state))
       → onClock b s r .answer ≡ Paused → P (onClock b s r .state)
   clock-goes-on P true s r h e = h refl e
-  clock-goes-on P false s r h e = absurd (refused ClockEnd e)
+  clock-goes-on P false s r h e = absurd (refused-not-paused ClockEnd e)
 
   finish-goes-on : (P : S → Type 0) (f : Finish) (clk : ℕ) (s : S) (k : S → Ran S) → (clk < clockEnd → k s .answer ≡ Paused → P (k s .state))
       → onFinish f clk s k .answer ≡ Paused → P (onFinish f clk s k .state)
@@ -76,7 +76,7 @@ module _ (memory : Memory ℕ) (e : Environment) where
       → ((s : State memory) → k s .answer ≡ Paused → whole s ≡ joined (k s) (rest (k s .state)))
       → onStep memory s x k .answer ≡ Paused
       → onStep memory s x whole ≡ joined (onStep memory s x k) (rest (onStep memory s x k .state))
-  step-splits s (refuse f) k whole rest h a = absurd (refused f a)
+  step-splits s (refuse f) k whole rest h a = absurd (refused-not-paused f a)
   step-splits s (pass n) k whole rest h a = finish-splits (n .finish) (n .state .clk) (n .state) k whole rest h a
 
   pub run-splits : (m n : ℕ) (s : State memory) → run memory e m s .answer ≡ Paused
@@ -90,7 +90,7 @@ module _ (memory : Memory ℕ) (e : Environment) where
   step-goes-on : (s : State memory) (x : Result (Next memory)) (k : State memory → Ran (State memory))
       → ((s : State memory) → s .clk < clockEnd → k s .answer ≡ Paused → k s .state .clk < clockEnd)
       → onStep memory s x k .answer ≡ Paused → onStep memory s x k .state .clk < clockEnd
-  step-goes-on s (refuse f) k h a = absurd (refused f a)
+  step-goes-on s (refuse f) k h a = absurd (refused-not-paused f a)
   step-goes-on s (pass n) k h a = finish-goes-on (λ t. t .clk < clockEnd) (n .finish) (n .state .clk) (n .state) k (h (n .state)) a
 
   pub run-goes-on : (m : ℕ) (s : State memory) → s .clk < clockEnd → run memory e m s .answer ≡ Paused → run memory e m s .state .clk < clockEnd
@@ -102,7 +102,7 @@ module _ (memory : Memory ℕ) (e : Environment) where
       → ((q : GuardedState memory) → k q .answer ≡ Paused → whole q ≡ joined (k q) (rest (k q .state)))
       → onGuardedStep memory q x k .answer ≡ Paused
       → onGuardedStep memory q x whole ≡ joined (onGuardedStep memory q x k) (rest (onGuardedStep memory q x k .state))
-  guarded-step-splits q (refuses f) k whole rest h a = absurd (refused f a)
+  guarded-step-splits q (refuses f) k whole rest h a = absurd (refused-not-paused f a)
   guarded-step-splits q sink k whole rest h a = absurd (at-sink a)
   guarded-step-splits q (passes n) k whole rest h a =
       finish-splits (n .next .finish) (n .next .state .clk) (record { plain = n .next .state; marks = n .marks }) k whole rest h a
@@ -120,7 +120,7 @@ module _ (memory : Memory ℕ) (e : Environment) where
   guarded-step-goes-on : (q : GuardedState memory) (x : GuardedResult (GuardedNext memory)) (k : GuardedState memory → Ran (GuardedState memory))
       → ((q : GuardedState memory) → q .plain .clk < clockEnd → k q .answer ≡ Paused → k q .state .plain .clk < clockEnd)
       → onGuardedStep memory q x k .answer ≡ Paused → onGuardedStep memory q x k .state .plain .clk < clockEnd
-  guarded-step-goes-on q (refuses f) k h a = absurd (refused f a)
+  guarded-step-goes-on q (refuses f) k h a = absurd (refused-not-paused f a)
   guarded-step-goes-on q sink k h a = absurd (at-sink a)
   guarded-step-goes-on q (passes n) k h a =
       let left : GuardedState memory = record { plain = n .next .state; marks = n .marks } in

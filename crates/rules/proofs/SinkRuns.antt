@@ -16,7 +16,7 @@ use Rattle.rules.specs.Operands.{Operands}
 use Rattle.rules.specs.Step.{Environment, State, Finish, goesOn, ends, calls, delegates, Next, step, Ran, afterStep, onClock, onFinish}
 use Rattle.rules.specs.Guarded.{MarkState, marksAfter, GuardedState, GuardedNext, guardedRest, guardedStep, onGuardedStep, guardedRun}
 use Rattle.rules.specs.MarkRules.{Place, Marking, MarkedAfter}
-use Rattle.rules.specs.SinkRules.{Fetched, ReachesUse, Accepted, Comes, start, onward}
+use Rattle.rules.specs.SinkRules.{InstructionRead, ReachesUse, AcceptedStep, Comes, start, onward}
 use Rattle.rules.proofs.ResultLaws.{pass-injective, after-passes, guard-passes}
 use Rattle.rules.proofs.DecodedRegisters.{AllInRange, fetch-in-range}
 use Rattle.rules.proofs.GuardedBesidePlain.{Beside, at-sink, refused, passed, step-beside}
@@ -53,7 +53,7 @@ marks-length t uncovered i s o = refl
 pub record Stepped (e : Environment) (q : GuardedState (cells ℕ)) (n : GuardedNext (cells ℕ)) : Type 0 where
   pub instruction : Instruction
   pub operands : Operands
-  pub fetched : Fetched e (q .plain) instruction operands
+  pub fetched : InstructionRead e (q .plain) instruction operands
   pub marks : n .marks ≡ marksAfter (cells ℕ) (q .marks) (classOf (instruction .opcode)) instruction (q .plain) operands
 
 passes-injective : {A : Type 0} {a b : A} → passes a ≡ passes b → a ≡ b
@@ -75,7 +75,7 @@ stepped e q {n} h =
       marks = ap (λ (m : GuardedNext (cells ℕ)). m .marks) (sym (passes-injective (w .2)));
     }
 
-same-fetched : {e : Environment} {s : State (cells ℕ)} {i j : Instruction} {o u : Operands} → Fetched e s i o → Fetched e s j u → (i ≡ j) × (o ≡ u)
+same-fetched : {e : Environment} {s : State (cells ℕ)} {i j : Instruction} {o u : Operands} → InstructionRead e s i o → InstructionRead e s j u → (i ≡ j) × (o ≡ u)
 same-fetched {e} {s} {i} {j} {o} {u} f g =
     let a : i ≡ j = pass-injective (sym (f .fetched) ∙ g .fetched) in
     (a, pass-injective (sym (f .read) ∙ rw (← a) at (g .read)))
@@ -85,13 +85,13 @@ pointwise h = λ j x. h x j
 
 module _ (e : Environment) (inRange : AllInRange (e .program)) where
   -- the marks of an accepted step, by the rules
-  step-marks : (s : State (cells ℕ)) (t : MarkState (cells ℕ)) → length (t .registers) ≡ 10 → {i : Instruction} {o : Operands} → Fetched e s i o
+  step-marks : (s : State (cells ℕ)) (t : MarkState (cells ℕ)) → length (t .registers) ≡ 10 → {i : Instruction} {o : Operands} → InstructionRead e s i o
       → (x : Place) (b : Bool) → MarkedAfter (markingOf t) i s o (i .opcode) x b
       → markingOf (marksAfter (cells ℕ) t (classOf (i .opcode)) i s o) x ≡ b
   step-marks s t ten {i} {o} f x b h =
       marks-exact t i o (e .psp) (s .registers) ten (fetch-in-range (e .program) (s .pc) inRange (f .fetched)) s (f .read) x b .0 h
 
-  marks-step : (s : State (cells ℕ)) (t : MarkState (cells ℕ)) → length (t .registers) ≡ 10 → {i : Instruction} {o : Operands} → Fetched e s i o
+  marks-step : (s : State (cells ℕ)) (t : MarkState (cells ℕ)) → length (t .registers) ≡ 10 → {i : Instruction} {o : Operands} → InstructionRead e s i o
       → (x : Place) → MarkedAfter (markingOf t) i s o (i .opcode) x (markingOf (marksAfter (cells ℕ) t (classOf (i .opcode)) i s o) x)
   marks-step s t ten {i} {o} f x =
       marks-exact t i o (e .psp) (s .registers) ten (fetch-in-range (e .program) (s .pc) inRange (f .fetched)) s (f .read) x _ .1 refl
@@ -112,7 +112,7 @@ module _ (e : Environment) (inRange : AllInRange (e .program)) where
     ten : length (marks .registers) ≡ 10
 
   accepted-steps : (s : State (cells ℕ)) (t : MarkState (cells ℕ)) {s′ : State (cells ℕ)} {t′ : Marking} → length (t .registers) ≡ 10
-      → Accepted e s (markingOf t) s′ t′ → StepsTo (at s t) s′ t′
+      → AcceptedStep e s (markingOf t) s′ t′ → StepsTo (at s t) s′ t′
   accepted-steps s t {s′} {t′} ten a = go (guardedStep (cells ℕ) e (at s t)) (step (cells ℕ) e s) refl refl (step-beside (cells ℕ) e (at s t))
     where
       go : (x : GuardedResult (GuardedNext (cells ℕ))) (y : Result (Next (cells ℕ))) → guardedStep (cells ℕ) e (at s t) ≡ x → step (cells ℕ) e s ≡ y
@@ -142,7 +142,7 @@ module _ (e : Environment) (inRange : AllInRange (e .program)) where
 
   steps-accepted : (q : GuardedState (cells ℕ)) {n : GuardedNext (cells ℕ)} → length (q .marks .registers) ≡ 10
       → guardedStep (cells ℕ) e q ≡ passes n → n .next .finish ≡ goesOn → n .next .state .clk < clockEnd
-      → Accepted e (q .plain) (markingOf (q .marks)) (n .next .state) (markingOf (n .marks))
+      → AcceptedStep e (q .plain) (markingOf (q .marks)) (n .next .state) (markingOf (n .marks))
   steps-accepted q {n} ten h f l =
       let w = stepped e q h in
       record {
@@ -193,7 +193,7 @@ module _ (e : Environment) (inRange : AllInRange (e .program)) where
       }
   comes-sinks (onward a r) zero l t h ten u = absurd (omega arith)
   comes-sinks (onward {s} {s′} {t′ = T′} a r) (suc n) l t h ten u =
-      let w = accepted-steps s t ten (subst (λ (x : Marking). Accepted e s x s′ T′) h a) in
+      let w = accepted-steps s t ten (subst (λ (x : Marking). AcceptedStep e s x s′ T′) h a) in
       let i = comes-sinks r n (omega arith) (w .marks) (w .same) (w .ten) u in
       record {
         marks = i .marks;

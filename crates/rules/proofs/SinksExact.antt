@@ -49,7 +49,7 @@ use Rattle.rules.specs.SinkRules.{
   tstore-cell,
   sccall-cell,
   ret-pc,
-  Fetched,
+  InstructionRead,
   ReachesUse,
   operand,
   reading,
@@ -251,7 +251,7 @@ stop-uses e q h =
     let i = x .0 in
     let y = after-sink _ _ (x .2) in
     let o = y .0 in
-    let f : Fetched e (q .plain) i o = record { fetched = x .1; read = y .1 } in
+    let f : InstructionRead e (q .plain) i o = record { fetched = x .1; read = y .1 } in
     guard-sink _ _ (y .2)
     (λ b. operand f (sink-use (q .marks) i (i .opcode) b))
     (λ b k.

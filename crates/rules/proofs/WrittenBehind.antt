@@ -10,7 +10,7 @@ use Rattle.rules.specs.Opcodes.{Class, field, equality, small, complemen
 use Rattle.rules.specs.Operands.{Operands}
 use Rattle.rules.specs.Step.{Environment, State, Next, overlay, operate, capacity, step, Ran, onStep, run}
 use Rattle.rules.specs.Guarded.{MarkState, readSink, marksAfter, GuardedState, GuardedNext, guardedRest, guardedStep, onGuardedStep, guardedRun}
-use Rattle.rules.specs.Relations.{Both, refused, passed, BothGuarded, refused-alike, sink-alike, passed-alike, BothRan}
+use Rattle.rules.specs.Relations.{Both, both-refused, passed, BothGuarded, refused-alike, sink-alike, passed-alike, BothRan}
 use Rattle.rules.proofs.OverlayLaws.{overlay-overlay}
 use Rattle.rules.proofs.Relational.{both-bind, both-bind-equal, both-require, both-after, both-after-equal, both-guard, both-finish}
 
@@ -57,7 +57,7 @@ module _ (w : List ℕ) (e : Environment) (i : Instruction) (s : State (cells �
       passed (next-behind (overlay out v) (ap (overlay out) h ∙ overlay-overlay out v w))
   operate-behind contractCall = both-bind-equal _ _ refl λ vs. passed (next-behind v h)
   operate-behind end = passed (next-behind v h)
-  operate-behind uncovered = refused
+  operate-behind uncovered = both-refused
 
   sinks-behind : (t : MarkState (cells ℕ)) (c : Class) → readSink (cells ℕ) t c i s o ≡ readSink (cells ℕ) t c i (withWritten s v) o
   unfolding readSink
@@ -118,7 +118,7 @@ step-behind w e (behind {s} v h) =
 on-step-behind : (w : List ℕ) {s t : State (cells ℕ)} {x y : Result (Next (cells ℕ))} (k : State (cells ℕ) → Ran (State (cells ℕ)))
     → Behind w s t → Both (NextBehind w) x y → ((s t : State (cells ℕ)) → Behind w s t → BothRan (Behind w) (k s) (k t))
     → BothRan (Behind w) (onStep (cells ℕ) s x k) (onStep (cells ℕ) t y k)
-on-step-behind w k b refused g = record { answer = refl; steps = refl; state = b }
+on-step-behind w k b both-refused g = record { answer = refl; steps = refl; state = b }
 on-step-behind w k b (passed (next-behind {n} v h)) g =
     let c : Behind w (n .state) (withWritten (n .state) v) = behind v h in
     both-finish (Behind w) {f = n .finish} {m = n .state .clk} _ _ k k refl refl c (g _ _ c)

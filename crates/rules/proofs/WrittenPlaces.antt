@@ -146,17 +146,17 @@ nothing-written s o n call = elim n [ ]
 nothing-written s o n (tload l u) = elim n [ ]
 
 -- the opcodes, by what they write
-pub data Kind : OlaOpcode → Type 0 where
-  of-both : {c : OlaOpcode} → FromBoth c → Kind c
-  of-one : {c : OlaOpcode} → FromOne c → Kind c
-  of-mload : Kind O.Mload
-  of-ret : Kind O.Ret
-  of-mstore : Kind O.Mstore
-  of-call : Kind O.Call
-  of-tload : Kind O.Tload
-  of-nothing : {c : OlaOpcode} → WritesNothing c → Kind c
+pub data WritesBy : OlaOpcode → Type 0 where
+  of-both : {c : OlaOpcode} → FromBoth c → WritesBy c
+  of-one : {c : OlaOpcode} → FromOne c → WritesBy c
+  of-mload : WritesBy O.Mload
+  of-ret : WritesBy O.Ret
+  of-mstore : WritesBy O.Mstore
+  of-call : WritesBy O.Call
+  of-tload : WritesBy O.Tload
+  of-nothing : {c : OlaOpcode} → WritesNothing c → WritesBy c
 
-pub kindOf : (c : OlaOpcode) → Kind c
+pub kindOf : (c : OlaOpcode) → WritesBy c
 kindOf O.Add = of-both add
 kindOf O.Mul = of-both mul
 kindOf O.Eq = of-both eq

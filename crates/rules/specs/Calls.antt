@@ -21,8 +21,8 @@ pub record Called (S : Type 0) : Type 0 where
   pub left : S
 
 -- a call refused at entry leaves everything
-abbrev pub refused : {S : Type 0} → Refusal → S → Called S
-refused f s = record { answer = refusalMeaning f; steps = 0; left = s }
+abbrev pub refusedCall : {S : Type 0} → Refusal → S → Called S
+refusedCall f s = record { answer = refusalMeaning f; steps = 0; left = s }
 
 abbrev pub plainRunOf : List Instruction → ℕ → Snapshot → Ran (State (cells ℕ))
 plainRunOf program budget s = run (cells ℕ) (environment program s) budget (stateOf s)
@@ -38,12 +38,12 @@ guardedAnswered g r = record { answer = meaning (r .answer); steps = r .steps; l
 
 -- of a program as loaded
 unfoldable pub plainCall : Result (List Instruction) → ℕ → Snapshot → Called Snapshot
-plainCall (refuse f) budget s = refused f s
-plainCall (pass program) budget s = choose (plainEntry s) (plainAnswered s (plainRunOf program budget s)) (refused BadState s)
+plainCall (refuse f) budget s = refusedCall f s
+plainCall (pass program) budget s = choose (plainEntry s) (plainAnswered s (plainRunOf program budget s)) (refusedCall BadState s)
 
 unfoldable pub guardedCall : Result (List Instruction) → ℕ → GuardedSnapshot → Called GuardedSnapshot
-guardedCall (refuse f) budget g = refused f g
-guardedCall (pass program) budget g = choose (guardedEntry g) (guardedAnswered g (guardedRunOf program budget g)) (refused BadState g)
+guardedCall (refuse f) budget g = refusedCall f g
+guardedCall (pass program) budget g = choose (guardedEntry g) (guardedAnswered g (guardedRunOf program budget g)) (refusedCall BadState g)
 
 -- a text's own budget; 0 where the text is refused, which no answer shows
 abbrev pub jobBudget : Result Job → ℕ

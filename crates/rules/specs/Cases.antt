@@ -8,7 +8,7 @@ use Rattle.rules.specs.declared.OlaOperand.the-variants.{Absent, Immedia
 use Rattle.rules.specs.Answers.{outcome}
 use Rattle.rules.specs.Solve.{kilosteps, solve}
 use Rattle.rules.specs.Encoding.{frame, bytes}
-use Rattle.rules.specs.Rows.{start, withR, withMarkedR, withCell, withTape, withClk, Row, row, Hold, plain, guarded, e0, e3, refused, nothing, registerAt, cellAt, cellCount, clkOf, markedRegisterAt}
+use Rattle.rules.specs.CaseRows.{start, withR, withMarkedR, withCell, withTape, withClk, Row, row, Hold, plain, guarded, e0, e3, refusedBy, nothing, registerAt, cellAt, cellCount, clkOf, markedRegisterAt}
 
 -- The starred cases
 
@@ -51,32 +51,32 @@ starred =
     -- p-1 + 1 gives 0
     row (plain 1 (add 0xFFFFFFFF00000000 1) start) (registerAt 0) e3 1 (0 ∷ [])
     -- p + 0: 7
-    ∷ row (plain 1 (add 0xFFFFFFFF00000001 0) start) (registerAt 0) (refused 7) 0 (7 ∷ [])
+    ∷ row (plain 1 (add 0xFFFFFFFF00000001 0) start) (registerAt 0) (refusedBy 7) 0 (7 ∷ [])
     -- 2^32 times 2^32 gives 0xFFFFFFFF
     ∷ row (plain 1 (multiply 0x100000000 0x100000000) start) (registerAt 0) e3 1 (0xFFFFFFFF ∷ [])
     -- NOT 0 gives 0xFFFFFFFF00000000
     ∷ row (plain 1 (not 0) start) (registerAt 0) e3 1 (0xFFFFFFFF00000000 ∷ [])
     -- AND of 0xFFFFFFFE and 1 gives 0; of 0xFFFFFFFF and 1: 8
     ∷ row (plain 1 (and 0xFFFFFFFE 1) start) (registerAt 0) e3 1 (0 ∷ [])
-    ∷ row (plain 1 (and 0xFFFFFFFF 1) start) (registerAt 0) (refused 8) 0 (7 ∷ [])
+    ∷ row (plain 1 (and 0xFFFFFFFF 1) start) (registerAt 0) (refusedBy 8) 0 (7 ∷ [])
     -- RC 0xFFFFFFFF passes, 0x100000000: 10
     ∷ row (plain 1 (rangeCheck 0xFFFFFFFF) start) nothing e3 1 []
-    ∷ row (plain 1 (rangeCheck 0x100000000) start) nothing (refused 10) 0 []
+    ∷ row (plain 1 (rangeCheck 0x100000000) start) nothing (refusedBy 10) 0 []
     -- MSTORE of p passes, p+1: 14
     ∷ row (plain 1 storeR1 (withR 1 0xFFFFFFFF00000001 start)) (cellAt 0) e3 1 (0xFFFFFFFF00000001 ∷ [])
-    ∷ row (plain 1 storeR1 (withR 1 0xFFFFFFFF00000002 start)) (cellAt 0) (refused 14) 0 []
+    ∷ row (plain 1 storeR1 (withR 1 0xFFFFFFFF00000002 start)) (cellAt 0) (refusedBy 14) 0 []
     -- CALL with R9 = 0: 14; R9 = 1 writes cell 0: the following pc, 2
-    ∷ row (plain 1 call (withR 9 0 start)) (cellAt 0) (refused 14) 0 []
+    ∷ row (plain 1 call (withR 9 0 start)) (cellAt 0) (refusedBy 14) 0 []
     ∷ row (plain 1 call (withR 9 1 start)) (cellAt 0) e3 1 (2 ∷ [])
     -- RET with R9 = 1, cell 0 present: 11
-    ∷ row (plain 1 ret (withR 9 1 (withCell 0 5 start))) (cellAt 0) (refused 11) 0 (5 ∷ [])
+    ∷ row (plain 1 ret (withR 9 1 (withCell 0 5 start))) (cellAt 0) (refusedBy 11) 0 (5 ∷ [])
     -- SCCALL with op1 = 2: e1, which carries the callee
     ∷ row (plain 1 (contractCall 2) (withCell 0 5 (withCell 1 6 (withCell 2 7 (withCell 3 8 start))))) nothing (outcome 1 (5 ∷ 6 ∷ 7 ∷ 8 ∷ [])) 1 []
     -- budget 0: e3, 0 steps
     ∷ row (plain 0 (add 0 1) start) (registerAt 0) e3 0 (7 ∷ [])
     -- guarded EQ of marked r1 with itself gives a marked 1; CJMP on it: 18
     ∷ row (guarded 1 equalThenJump (withMarkedR 1 9 start)) (markedRegisterAt 0) e3 1 (1 ∷ 1 ∷ [])
-    ∷ row (guarded 2 equalThenJump (withMarkedR 1 9 start)) (markedRegisterAt 0) (refused 18) 1 (1 ∷ 1 ∷ [])
+    ∷ row (guarded 2 equalThenJump (withMarkedR 1 9 start)) (markedRegisterAt 0) (refusedBy 18) 1 (1 ∷ 1 ∷ [])
     ∷ []
 
 abbrev pub StarredHold : Type 0
@@ -94,11 +94,11 @@ tapeLoad a b = frame O.Tload (Immediate a) (Immediate b) (Immediate 0)
 unfoldable pub others : List Row
 others =
     -- from clk 10^12-1: MOV gives 17 and stands, END gives e0
-    row (plain 1 (frame O.Mov Absent (Immediate 5) (Register 0)) (withClk 999999999999 start)) (registerAt 0) (refused 17) 1 (5 ∷ [])
+    row (plain 1 (frame O.Mov Absent (Immediate 5) (Register 0)) (withClk 999999999999 start)) (registerAt 0) (refusedBy 17) 1 (5 ∷ [])
     ∷ row (plain 1 (frame O.End Absent Absent Absent) (withClk 999999999999 start)) clkOf e0 1 (1000000000000 ∷ [])
     -- TSTORE from 0xFFFFFFFD00000002: length 0 passes, 1: 12
     ∷ row (plain 1 (tapeStore 0xFFFFFFFD00000002 0) (withCell 0xFFFFFFFD00000002 5 start)) nothing e3 1 []
-    ∷ row (plain 1 (tapeStore 0xFFFFFFFD00000002 1) (withCell 0xFFFFFFFD00000002 5 start)) nothing (refused 12) 0 []
+    ∷ row (plain 1 (tapeStore 0xFFFFFFFD00000002 1) (withCell 0xFFFFFFFD00000002 5 start)) nothing (refusedBy 12) 0 []
     -- TLOAD of the last 0 writes nothing
     ∷ row (plain 1 (tapeLoad 1 0) (withTape (5 ∷ 6 ∷ []) start)) cellCount e3 1 (0 ∷ [])
     ∷ []

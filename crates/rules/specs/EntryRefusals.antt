@@ -9,7 +9,7 @@ use Rattle.rules.specs.Answers.{Meaning, refusal}
 use Rattle.rules.specs.Entry.{Snapshot}
 use Rattle.rules.specs.Calls.{Called, plainWords, plainText, plainBudgetText, guardedWords}
 use Rattle.rules.specs.Encoding.{bytes}
-use Rattle.rules.specs.Rows.{start, snapshot, Row, row, Hold, plain, e0, e3, refused, nothing}
+use Rattle.rules.specs.CaseRows.{start, snapshot, Row, row, Hold, plain, e0, e3, refusedBy, nothing}
 use Rattle.rules.specs.RefusalOrder.{endLines}
 
 abbrev malformed : ℕ → Meaning
@@ -29,10 +29,10 @@ passedWords ws = row (words ws) nothing e0 1 []
 unfoldable pub wordRefusals : List Row
 wordRefusals =
     -- no frame
-    row (words []) nothing (refused 1) 0 []
+    row (words []) nothing (refusedBy 1) 0 []
     -- an opcode above 26; 26, which is EVENT, is refused 5 at its step
     ∷ refusedWords (0x1b ∷ [])
-    ∷ row (words (0x1a ∷ [])) nothing (refused 5) 0 []
+    ∷ row (words (0x1a ∷ [])) nothing (refusedBy 5) 0 []
     -- kind 7 of op0, op1, dst; kind 6, PC, which END ignores
     ∷ refusedWords (0x70b ∷ [])
     ∷ refusedWords (0x380b ∷ [])
@@ -83,14 +83,14 @@ WordRefusalsHold =
     Hold wordRefusals
     -- 512 frames pass, 513: 1
     × (words (replicate 512 0xb) .answer ≡ e0)
-    × (words (replicate 513 0xb) .answer ≡ refused 1)
+    × (words (replicate 513 0xb) .answer ≡ refusedBy 1)
     -- a malformed frame takes all that are left
     × (words (0x1b ∷ replicate 512 0xb) .answer ≡ malformed 1)
 
 abbrev pub TextRefusalsHold : Type 0
 TextRefusalsHold =
     (text (bytes "000000000000000b\n") ≡ e0)
-    × (text [] ≡ refused 1)
+    × (text [] ≡ refusedBy 1)
     -- no line feed; 15 digits; 17; no digit, next to 0-9 and a-f; a word too many; one that is missing; an empty line
     × (text (bytes "000000000000000b") ≡ malformed 1)
     × (text (bytes "00000000000000b\n") ≡ malformed 1)
@@ -115,9 +115,9 @@ TextRefusalsHold =
     -- the budget line and frame 3; frames 3 and 40
     × (budgetText (bytes "x\n" ++ (endLines 2 ++ bytes "x\n")) ≡ malformed 0)
     × (budgetText (bytes "0000000000000001\n" ++ (endLines 2 ++ (bytes "x\n" ++ (endLines 36 ++ bytes "x\n")))) ≡ malformed 3)
-    × (budgetText (bytes "0000000000000001\n") ≡ refused 1)
+    × (budgetText (bytes "0000000000000001\n") ≡ refusedBy 1)
     × (budgetText (bytes "0000000000000001\n" ++ endLines 512) ≡ e0)
-    × (budgetText (bytes "0000000000000001\n" ++ endLines 513) ≡ refused 1)
+    × (budgetText (bytes "0000000000000001\n" ++ endLines 513) ≡ refusedBy 1)
 
 -- The state
 
@@ -142,7 +142,7 @@ handedIn cells tape output clk ls ns ts os =
     }
 
 abbrev refusedState : Snapshot → Row
-refusedState s = row (plainWords (0xb ∷ []) 1 s) nothing (refused 3) 0 []
+refusedState s = row (plainWords (0xb ∷ []) 1 s) nothing (refusedBy 3) 0 []
 
 abbrev passedState : Snapshot → Row
 passedState s = row (plainWords (0xb ∷ []) 1 s) nothing e0 1 []
@@ -199,17 +199,17 @@ unfoldable pub markRefusals : List Row
 markRefusals =
     markedRow (0 ∷ 0 ∷ 0 ∷ []) 0 e0 1
     -- a mark not 0 or 1; an unused one may be anything
-    ∷ markedRow (2 ∷ 0 ∷ 0 ∷ []) 0 (refused 3) 0
+    ∷ markedRow (2 ∷ 0 ∷ 0 ∷ []) 0 (refusedBy 3) 0
     ∷ markedRow (1 ∷ 0 ∷ 2 ∷ []) 0 e0 1
     -- a register mark beyond R9
-    ∷ markedRow (0 ∷ 0 ∷ 0 ∷ []) 0x400 (refused 3) 0
+    ∷ markedRow (0 ∷ 0 ∷ 0 ∷ []) 0x400 (refusedBy 3) 0
     ∷ markedRow (0 ∷ 0 ∷ 0 ∷ []) 0x3fe e0 1
     -- a marked number not below p: a cell's, a register's
-    ∷ markedRow (0 ∷ 1 ∷ 0 ∷ []) 0 (refused 3) 0
-    ∷ markedRow (0 ∷ 0 ∷ 0 ∷ []) 1 (refused 3) 0
+    ∷ markedRow (0 ∷ 1 ∷ 0 ∷ []) 0 (refusedBy 3) 0
+    ∷ markedRow (0 ∷ 0 ∷ 0 ∷ []) 1 (refusedBy 3) 0
     -- cell slices of unequal length
-    ∷ markedRow (0 ∷ 0 ∷ []) 0 (refused 3) 0
-    ∷ markedRow (0 ∷ 0 ∷ 0 ∷ 0 ∷ []) 0 (refused 3) 0
+    ∷ markedRow (0 ∷ 0 ∷ []) 0 (refusedBy 3) 0
+    ∷ markedRow (0 ∷ 0 ∷ 0 ∷ 0 ∷ []) 0 (refusedBy 3) 0
     ∷ []
 
 abbrev pub StateRefusalsHold : Type 0

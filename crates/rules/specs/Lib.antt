@@ -30,7 +30,7 @@ pub mod Resumption
 pub mod SplitCalls
 -- tables of cases
 pub mod Encoding
-pub mod Rows
+pub mod CaseRows
 pub mod Cases
 pub mod StepCases
 pub mod EntryRefusals

@@ -12,7 +12,7 @@ use Rattle.rules.specs.Text.{Line, lineFeed, linesOf, frameOfLine, isNot
 use Rattle.rules.specs.Answers.{refusal}
 use Rattle.rules.specs.Entry.{Snapshot, GuardedSnapshot}
 use Rattle.rules.specs.Calls.{Called, jobProgram, plainCall, plainWords, plainText, plainBudgetText, guardedCall, guardedWords, guardedText, guardedBudgetText}
-use Rattle.rules.specs.Solve.{decimal, zeroFields, field, solve}
+use Rattle.rules.specs.Solve.{decimal, zeroFields, spaced, solve}
 
 -- Of frames numbered from n on, each malformed (true) or well formed (false)
 
@@ -100,4 +100,4 @@ pub record CallsCarryEarliest : Type 0 where
       → CarriesEarliest (numberedBudgetText text) g (guardedCall (jobProgram (loadBudgetText text)) 0 g)
   -- `solve` prints 2, four zeros and the number
   pub solvePrints : (text : List ℕ) (n : ℕ) → Carried (numberedBudgetText text) n
-      → solve text ≡ decimal 2 ++ (zeroFields ++ (field n ++ (lineFeed ∷ [])))
+      → solve text ≡ decimal 2 ++ (zeroFields ++ (spaced n ++ (lineFeed ∷ [])))

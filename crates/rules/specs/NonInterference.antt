@@ -14,7 +14,7 @@ use Rattle.rules.specs.Step.{State}
 use Rattle.rules.specs.Guarded.{registerMark, slotMark}
 use Rattle.rules.specs.Answers.{outcome, refusal}
 use Rattle.rules.specs.Entry.{Snapshot, GuardedSnapshot, usedAddresses, usedNumbers, usedTape, usedOutput, usedMarks, markedRegisters, markedCells, marksEntry, guardedEntry, environment, stateOf}
-use Rattle.rules.specs.Calls.{Called, refused}
+use Rattle.rules.specs.Calls.{Called, refusedCall}
 use Rattle.rules.specs.MarkRules.{register, cell, Marking}
 use Rattle.rules.specs.SinkRules.{ReachesUse, Comes}
 
@@ -118,7 +118,7 @@ pub record NonInterference
       → unmarked (guarded g) ≡ plain budget (g .plain)
   -- one whose marks an entry refuses is refused 3 and leaves everything, unless the program is refused
   pub unfit : (g : GuardedSnapshot) → marksEntry g ≡ false → {instructions : List Instruction} → program ≡ pass instructions
-      → guarded g ≡ refused BadState g
+      → guarded g ≡ refusedCall BadState g
   -- one that meets 18 after k steps, which is below the budget, leaves what the plain call with budget k leaves: that is e3 after k steps
   pub stopsEarly : (g : GuardedSnapshot) (k : ℕ) → SinkAfter k (guarded g)
       → (k < budget) × (plain k (g .plain) ≡ pausedAfter k (guarded g .left .plain))

@@ -13,7 +13,7 @@ use Rattle.rules.specs.Answers.{Meaning, refusal}
 use Rattle.rules.specs.Entry.{Snapshot}
 use Rattle.rules.specs.Calls.{Called, plainText, plainBudgetText}
 use Rattle.rules.specs.Encoding.{frame, imm, absent6, offset7, bytes}
-use Rattle.rules.specs.Rows.{Start, start, withMarkedR, withClk, fourCells, full, snapshot, Hold, plain, guarded, e3, refused, Pair, pair, pairOf, inStep, rowsOf, forEach}
+use Rattle.rules.specs.CaseRows.{Start, start, withMarkedR, withClk, fourCells, full, snapshot, Hold, plain, guarded, e3, refusedBy, Pair, pair, pairOf, inStep, rowsOf, forEach}
 
 -- one step
 abbrev once : List ℕ → Start → Called Snapshot
@@ -59,12 +59,12 @@ entryOrder =
     -- 1 before 3
     pair 1 (once [] badState) 3 (once (endFrames 1) badState)
     -- 2 before 3
-    ∷ pairOf (malformed 1) (once (0x1f ∷ []) badState) (refused 3) (once (endFrames 1) badState)
+    ∷ pairOf (malformed 1) (once (0x1f ∷ []) badState) (refusedBy 3) (once (endFrames 1) badState)
     -- 1 before 3, and 2 before 3, of a guarded call
     ∷ pair 1 (guarded 1 [] badMark) 3 (guarded 1 (endFrames 1) badMark)
-    ∷ pairOf (malformed 1) (guarded 1 (0x1f ∷ []) badMark) (refused 3) (guarded 1 (endFrames 1) badMark)
+    ∷ pairOf (malformed 1) (guarded 1 (0x1f ∷ []) badMark) (refusedBy 3) (guarded 1 (endFrames 1) badMark)
     -- 3 before a pause at budget 0
-    ∷ pairOf (refused 3) (plain 0 (endFrames 1) badState) e3 (plain 0 (endFrames 1) start)
+    ∷ pairOf (refusedBy 3) (plain 0 (endFrames 1) badState) e3 (plain 0 (endFrames 1) start)
     ∷ []
 
 -- 1 before 2
@@ -72,14 +72,14 @@ abbrev pub EntryOrderHolds : Type 0
 EntryOrderHolds =
     Hold (rowsOf entryOrder)
     -- among bare words: 512 frames before a malformed one, 511
-    × (once (endFrames 512 ++ (0x1f ∷ [])) start .answer ≡ refused 1)
+    × (once (endFrames 512 ++ (0x1f ∷ [])) start .answer ≡ refusedBy 1)
     × (once (endFrames 511 ++ (0x1f ∷ [])) start .answer ≡ malformed 512)
     -- in a text: 512 lines after a malformed one, 511; and 512 malformed lines of 65,537 bytes
-    × (text (bytes "x\n" ++ endLines 512) .answer ≡ refused 1)
+    × (text (bytes "x\n" ++ endLines 512) .answer ≡ refusedBy 1)
     × (text (bytes "x\n" ++ endLines 511) .answer ≡ malformed 1)
-    × (text (zeroLines 511 127 ++ zeroLines 1 128) .answer ≡ refused 1)
+    × (text (zeroLines 511 127 ++ zeroLines 1 128) .answer ≡ refusedBy 1)
     -- after a malformed budget line: no frame, a frame
-    × (budgetText (bytes "x\n") .answer ≡ refused 1)
+    × (budgetText (bytes "x\n") .answer ≡ refusedBy 1)
     × (budgetText (bytes "x\n000000000000000b\n") .answer ≡ malformed 0)
 
 -- Fetch, and operand after operand

@@ -5,7 +5,7 @@ use Rattle.rules.specs.Results.{Result, refuse, pass, GuardedResult, ref
 use Rattle.rules.specs.Step.{Ran}
 
 pub data Both {A B : Type 0} (R : A → B → Type 0) : Result A → Result B → Type 0 where
-  refused : {f : Refusal} → Both R (refuse f) (refuse f)
+  both-refused : {f : Refusal} → Both R (refuse f) (refuse f)
   passed : {a : A} {b : B} → R a b → Both R (pass a) (pass b)
 
 -- of a guarded step, which may also stop at a sink

@@ -7,7 +7,7 @@ use Rattle.rules.specs.declared.OlaOpcode.the-variants as O
 use Rattle.rules.specs.declared.OlaOperand.{OlaOperand}
 use Rattle.rules.specs.declared.OlaOperand.the-variants.{Absent, Register, RegisterWithOffset}
 use Rattle.rules.specs.Encoding.{frame, imm, absent6, offset7}
-use Rattle.rules.specs.Rows.{Start, start, withR, withMarkedR, withCell, withMarkedCell, withTape, withClk, fourCells, full, Row, row, Hold, plain, guarded, refused, nothing, Pair, pair, inGuardedStep, sinkBefore, rowsOf, forEach}
+use Rattle.rules.specs.CaseRows.{Start, start, withR, withMarkedR, withCell, withMarkedCell, withTape, withClk, fourCells, full, Row, row, Hold, plain, guarded, refusedBy, nothing, Pair, pair, inGuardedStep, sinkBefore, rowsOf, forEach}
 
 abbrev r0 : OlaOperand
 r0 = Register 0
@@ -173,9 +173,9 @@ edge s = withClk 999999999999 s
 
 unfoldable pub sinkAtClock : List Row
 sinkAtClock =
-    row (guarded 1 (frame O.Jmp Absent r1 Absent) (edge (markedR1 0))) nothing (refused 18) 0 []
-    ∷ row (plain 1 (frame O.Jmp Absent r1 Absent) (edge (markedR1 0))) nothing (refused 17) 1 []
-    ∷ row (guarded 1 (frame O.Mov Absent r1 r0) (edge (markedR1 0))) nothing (refused 17) 1 []
+    row (guarded 1 (frame O.Jmp Absent r1 Absent) (edge (markedR1 0))) nothing (refusedBy 18) 0 []
+    ∷ row (plain 1 (frame O.Jmp Absent r1 Absent) (edge (markedR1 0))) nothing (refusedBy 17) 1 []
+    ∷ row (guarded 1 (frame O.Mov Absent r1 r0) (edge (markedR1 0))) nothing (refusedBy 17) 1 []
     ∷ []
 
 abbrev pub SinkAtClockHolds : Type 0

@@ -73,21 +73,21 @@ module _ (t : Marking) (i : Instruction) where
         → t (cell (r9 (cells ℕ) s - 1)) ≡ true → ReadUse e s o O.Ret
 
 -- the step of an instruction, as fetched and with its operands as read
-pub record Fetched (e : Environment) (s : State (cells ℕ)) (i : Instruction) (o : Operands) : Type 0 where
+pub record InstructionRead (e : Environment) (s : State (cells ℕ)) (i : Instruction) (o : Operands) : Type 0 where
   pub fetched : fetch (e .program) (s .pc) ≡ pass i
   pub read : operands (e .psp) (s .registers) (classOf (i .opcode)) i ≡ pass o
 
 -- the step from a state reaches a listed use: nothing before the use refuses it
 pub data ReachesUse (e : Environment) (s : State (cells ℕ)) (t : Marking) : Type 0 where
-  operand : {i : Instruction} {o : Operands} → Fetched e s i o → OperandUse t i (i .opcode) → ReachesUse e s t
-  reading : {i : Instruction} {o : Operands} → Fetched e s i o → (OperandUse t i (i .opcode) → ⊥)
+  operand : {i : Instruction} {o : Operands} → InstructionRead e s i o → OperandUse t i (i .opcode) → ReachesUse e s t
+  reading : {i : Instruction} {o : Operands} → InstructionRead e s i o → (OperandUse t i (i .opcode) → ⊥)
       → ReadUse t i e s o (i .opcode) → ReachesUse e s t
 
 -- an accepted step that lets the run go on: the plain step, at no listed use, with the marks that the rules give
-pub record Accepted (e : Environment) (s : State (cells ℕ)) (t : Marking) (s′ : State (cells ℕ)) (t′ : Marking) : Type 0 where
+pub record AcceptedStep (e : Environment) (s : State (cells ℕ)) (t : Marking) (s′ : State (cells ℕ)) (t′ : Marking) : Type 0 where
   pub instruction : Instruction
   pub operands : Operands
-  pub fetched : Fetched e s instruction operands
+  pub fetched : InstructionRead e s instruction operands
   pub unused : ReachesUse e s t → ⊥
   pub next : step (cells ℕ) e s ≡ pass (record { state = s′; finish = goesOn })
   pub clock : s′ .clk < clockEnd
@@ -97,4 +97,4 @@ pub record Accepted (e : Environment) (s : State (cells ℕ)) (t : Marking) (s�
 pub data Comes (e : Environment) : State (cells ℕ) → Marking → ℕ → State (cells ℕ) → Marking → Type 0 where
   start : {s : State (cells ℕ)} {t : Marking} → Comes e s t 0 s t
   onward : {s s′ s″ : State (cells ℕ)} {t t′ t″ : Marking} {k : ℕ}
-      → Accepted e s t s′ t′ → Comes e s′ t′ k s″ t″ → Comes e s t (suc k) s″ t″
+      → AcceptedStep e s t s′ t′ → Comes e s′ t′ k s″ t″ → Comes e s t (suc k) s″ t″

@@ -29,8 +29,8 @@ space = 32
 unfoldable pub decimal : ℕ → List ℕ
 decimal n = choose (ltb n 10) ((n + 48) ∷ []) ((n / 10 + 48) ∷ ((n % 10 + 48) ∷ []))
 
-abbrev pub field : ℕ → List ℕ
-field n = space ∷ shortestHex n
+abbrev pub spaced : ℕ → List ℕ
+spaced n = space ∷ shortestHex n
 
 unfoldable pub valueLines : List ℕ → List ℕ
 valueLines [] = []
@@ -39,15 +39,15 @@ valueLines (v ∷ vs) = (shortestHex v ++ (lineFeed ∷ [])) ++ valueLines vs
 -- steps, pc, clk, kilosteps
 abbrev pub stateFields : Called Snapshot → List ℕ
 stateFields c =
-    field (c .steps) ++ (field (c .left .machine .pc) ++ (field (c .left .machine .clk) ++ field (kilosteps (c .left .machine .clk))))
+    spaced (c .steps) ++ (spaced (c .left .machine .pc) ++ (spaced (c .left .machine .clk) ++ spaced (kilosteps (c .left .machine .clk))))
 
 abbrev pub zeroFields : List ℕ
-zeroFields = field 0 ++ (field 0 ++ (field 0 ++ field 0))
+zeroFields = spaced 0 ++ (spaced 0 ++ (spaced 0 ++ spaced 0))
 
 -- the frame that refusal 2 carries
 unfoldable pub carriedFields : List ℕ → List ℕ
 carriedFields [] = []
-carriedFields (v ∷ vs) = field v ++ carriedFields vs
+carriedFields (v ∷ vs) = spaced v ++ carriedFields vs
 
 -- refusals 1, 2 and 3 are found at entry
 abbrev pub isEntryRefusal : ℕ → Bool

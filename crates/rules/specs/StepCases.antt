@@ -12,7 +12,7 @@ use Rattle.rules.specs.Entry.{Snapshot, GuardedSnapshot, usedTape, usedO
 use Rattle.rules.specs.Calls.{plainBudgetText}
 use Rattle.rules.specs.Solve.{solve, printed}
 use Rattle.rules.specs.Encoding.{frame, imm, bytes}
-use Rattle.rules.specs.Rows.{Start, start, withR, withMarkedR, withCell, withMarkedCell, withTape, withClk, fourCells, snapshot, Row, row, Hold, plain, guarded, e0, e3, registerAt, cellAt, clkOf, markedRegisterAt, markedCellAt}
+use Rattle.rules.specs.CaseRows.{Start, start, withR, withMarkedR, withCell, withMarkedCell, withTape, withClk, fourCells, snapshot, Row, row, Hold, plain, guarded, e0, e3, registerAt, cellAt, clkOf, markedRegisterAt, markedCellAt}
 use Rattle.rules.specs.RefusalOrder.{endLines}
 
 abbrev r0 : OlaOperand
@@ -92,7 +92,7 @@ ResultsHold = Hold results × Hold lengths
 abbrev leaves : List ℕ → Start → (GuardedSnapshot → List ℕ) → List ℕ → Row
 leaves words s look about = row (guarded 1 words s) look e3 1 about
 
--- R0 is a guarded 7, or R1 a guarded 6
+-- R0 is a marked 7, or R1 a marked 6
 abbrev marked0 : Start
 marked0 = withMarkedR 0 7 start
 

@@ -9,7 +9,7 @@ use Rattle.rules.specs.declared.OlaOperand.the-variants.{Absent, Registe
 use Rattle.rules.specs.Answers.{outcome}
 use Rattle.rules.specs.Entry.{Snapshot, usedTape, usedOutput}
 use Rattle.rules.specs.Encoding.{frame, imm}
-use Rattle.rules.specs.Rows.{Start, start, withR, withCell, withTape, withFree, fourCells, full, Row, row, Hold, plain, e0, e3, refused, nothing, registerAt, cellAt, cellCount}
+use Rattle.rules.specs.CaseRows.{Start, start, withR, withCell, withTape, withFree, fourCells, full, Row, row, Hold, plain, e0, e3, refusedBy, nothing, registerAt, cellAt, cellCount}
 
 abbrev r0 : OlaOperand
 r0 = Register 0
@@ -19,7 +19,7 @@ r1 = Register 1
 
 -- one step that is refused; one that passes, and what is looked at after it
 abbrev refuses : ℕ → List ℕ → Start → Row
-refuses n words s = row (plain 1 words s) nothing (refused n) 0 []
+refuses n words s = row (plain 1 words s) nothing (refusedBy n) 0 []
 
 abbrev passes : List ℕ → Start → Row
 passes words s = row (plain 1 words s) nothing e3 1 []
@@ -38,8 +38,8 @@ move b = frame O.Mov Absent b r0
 unfoldable pub operandRefusals : List Row
 operandRefusals =
     -- 4: pc past the last instruction, and inside one; the steps before it stand
-    row (plain 2 (move (imm 5)) start) (registerAt 0) (refused 4) 1 (5 ∷ [])
-    ∷ row (plain 2 (frame O.Jmp Absent (imm 1) Absent ++ move (imm 5)) start) pcOf (refused 4) 1 (1 ∷ [])
+    row (plain 2 (move (imm 5)) start) (registerAt 0) (refusedBy 4) 1 (5 ∷ [])
+    ∷ row (plain 2 (frame O.Jmp Absent (imm 1) Absent ++ move (imm 5)) start) pcOf (refusedBy 4) 1 (1 ∷ [])
     -- 5: opcodes 19, 20, 21, 25, 26
     ∷ refuses 5 (frame O.Poseidon (imm 0) (imm 0) r0) start
     ∷ refuses 5 (frame O.Sload (imm 0) (imm 0) r0) start
@@ -219,9 +219,9 @@ outcomes =
     ∷ row (plain 4 loop start) (registerAt 0) e3 4 (9 ∷ [])
     ∷ row (plain 1 end start) nothing e0 1 []
     -- a refused step: the steps before it are carried and stand, nothing of it does
-    ∷ row (plain 9 (move (imm 5) ++ (move (imm 6) ++ tapeLoad 1 2 0xFFFFFFFE00000001)) (withTape (5 ∷ 6 ∷ []) start)) (registerAt 0) (refused 15) 2 (6 ∷ [])
-    ∷ row (plain 9 (tapeLoad 1 2 0xFFFFFFFE00000001) (withTape (5 ∷ 6 ∷ []) start)) cellCount (refused 15) 0 (0 ∷ [])
-    ∷ row (plain 9 (memoryStore 0xFFFFFFFE00000002) start) pcOf (refused 15) 0 (0 ∷ [])
+    ∷ row (plain 9 (move (imm 5) ++ (move (imm 6) ++ tapeLoad 1 2 0xFFFFFFFE00000001)) (withTape (5 ∷ 6 ∷ []) start)) (registerAt 0) (refusedBy 15) 2 (6 ∷ [])
+    ∷ row (plain 9 (tapeLoad 1 2 0xFFFFFFFE00000001) (withTape (5 ∷ 6 ∷ []) start)) cellCount (refusedBy 15) 0 (0 ∷ [])
+    ∷ row (plain 9 (memoryStore 0xFFFFFFFE00000002) start) pcOf (refusedBy 15) 0 (0 ∷ [])
     ∷ []
 
 abbrev pub OutcomesHold : Type 0

@@ -7,7 +7,7 @@ use Rattle.rules.specs.declared.OlaOperand.{OlaOperand}
 use Rattle.rules.specs.declared.OlaOperand.the-variants.{Absent, Register}
 use Rattle.rules.specs.Answers.{outcome}
 use Rattle.rules.specs.Encoding.{frame, imm, absent6, offset7}
-use Rattle.rules.specs.Rows.{Start, start, withR, withTape, withClk, fourCells, full, Row, row, Hold, plain, e0, e3, refused, nothing, Pair, inStep, fromTwo, rowsOf}
+use Rattle.rules.specs.CaseRows.{Start, start, withR, withTape, withClk, fourCells, full, Row, row, Hold, plain, e0, e3, refusedBy, nothing, Pair, inStep, fromTwo, rowsOf}
 
 abbrev r1 : OlaOperand
 r1 = Register 1
@@ -132,16 +132,16 @@ move = frame O.Mov Absent (imm 5) (Register 0)
 
 -- a step that is refused at the edge
 abbrev stays : ℕ → List ℕ → Start → Row
-stays n words s = row (plain 1 words (edge s)) nothing (refused n) 0 []
+stays n words s = row (plain 1 words (edge s)) nothing (refusedBy n) 0 []
 
 unfoldable pub clockOrder : List Row
 clockOrder =
     -- 17 before e3
-    row (plain 1 move (edge start)) nothing (refused 17) 1 []
+    row (plain 1 move (edge start)) nothing (refusedBy 17) 1 []
     ∷ row (plain 1 move (early start)) nothing e3 1 []
     -- 17 before the next step's 4
-    ∷ row (plain 2 move (edge start)) nothing (refused 17) 1 []
-    ∷ row (plain 2 move (early start)) nothing (refused 4) 1 []
+    ∷ row (plain 2 move (edge start)) nothing (refusedBy 17) 1 []
+    ∷ row (plain 2 move (early start)) nothing (refusedBy 4) 1 []
     -- e0, e1 and e2 and not 17
     ∷ row (plain 1 (frame O.End Absent Absent Absent) (edge start)) nothing e0 1 []
     ∷ row (plain 1 (frame O.Sccall (imm 0) (imm 0) Absent) (edge (fourCells start))) nothing (outcome 1 (5 ∷ 6 ∷ 7 ∷ 8 ∷ [])) 1 []

@@ -10,7 +10,7 @@ use Rattle.rules.specs.Answers.{Meaning, outcome, refusal}
 use Rattle.rules.specs.Entry.{GuardedSnapshot}
 use Rattle.rules.specs.Calls.{guardedWords}
 use Rattle.rules.specs.Encoding.{frame}
-use Rattle.rules.specs.Rows.{start, withR, withMarkedR, withCell, guardedSnapshot, markedRegisterAt, markedCellAt}
+use Rattle.rules.specs.CaseRows.{start, withR, withMarkedR, withCell, guardedSnapshot, markedRegisterAt, markedCellAt}
 use Rattle.rules.specs.NonInterference.{MarkedBelow, Alike, SameCalls}
 
 -- two starts of one program that differ and are alike, each marked number below p; the answers and steps of their calls, which are the same

@@ -20,7 +20,7 @@ pub(crate) fn play(buffer: &mut [u8], fields: &mut [u64; SIZE], text: &mut [u8; 
             return;
         }
         let played = play_lines(&buffer[..end], fields, text);
-        rest = keep(buffer, played, end);
+        rest = keep_rest(buffer, played, end);
         pieces -= 1;
     }
 }
@@ -50,7 +50,7 @@ fn play_lines(bytes: &[u8], fields: &mut [u64; SIZE], text: &mut [u8; TEXT_SIZE]
 }
 
 // Moves the bytes between two places to the buffer's start, and answers how many they are.
-fn keep(buffer: &mut [u8], from: usize, end: usize) -> usize
+fn keep_rest(buffer: &mut [u8], from: usize, end: usize) -> usize
     requires { ⌜ (from ≤ end) × (end ≤ length (now buffer)) ⌝ }
     ensures { λ r. ⌜ Counts r (now (buffer .exit)) ⌝ }
 {

@@ -1,6 +1,6 @@
 -- `executor::load_and_enter` meets its contract: the words are loaded and the call is theirs, or they are refused.
 use mathlib.Core.Path.{subst}
-use Rattle.program.specs.Loads.{Loads}
+use Rattle.program.specs.WordLoads.{Loads}
 use Rattle.executor.proofs.Answered.{refused-is, words-refused, words-loaded}
 use borrow.Author.Needs.{needs}
 use Rattle.executor.proofs.load_and_enter.Statement.{statement}

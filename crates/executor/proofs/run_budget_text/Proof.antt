@@ -2,7 +2,7 @@
 use mathlib.Core.Path.{sym, subst}
 use lib.Seq.{length-take-le}
 use native.Mathlib.Omega.{arith}
-use Rattle.program_text.specs.Loads.{LoadsBudgetText}
+use Rattle.program_text.specs.TextLoads.{LoadsBudgetText}
 use Rattle.executor.proofs.Answered.{refused-is, job-refused, job-loaded}
 use borrow.Author.Needs.{needs}
 use Rattle.executor.proofs.run_budget_text.Statement.{statement}

@@ -1,6 +1,6 @@
 -- `guarded::load_and_enter` meets its contract: the words are loaded and the call is theirs, or they are refused.
 use mathlib.Core.Path.{subst}
-use Rattle.program.specs.Loads.{Loads}
+use Rattle.program.specs.WordLoads.{Loads}
 use Rattle.guarded.proofs.Answered.{refused-is, words-refused, words-loaded}
 use borrow.Author.Needs.{needs}
 use Rattle.guarded.proofs.load_and_enter.Statement.{statement}

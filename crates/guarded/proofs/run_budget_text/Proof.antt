@@ -2,7 +2,7 @@
 use mathlib.Core.Path.{sym, subst}
 use native.Mathlib.Omega.{arith}
 use lib.Seq.{length-take-le}
-use Rattle.program_text.specs.Loads.{LoadsBudgetText}
+use Rattle.program_text.specs.TextLoads.{LoadsBudgetText}
 use Rattle.guarded.proofs.Answered.{refused-is, job-refused, job-loaded}
 use borrow.Author.Needs.{needs}
 use Rattle.guarded.proofs.run_budget_text.Statement.{statement}

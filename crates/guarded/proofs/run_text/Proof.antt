@@ -2,7 +2,7 @@
 use mathlib.Core.Path.{sym, subst}
 use native.Mathlib.Omega.{arith}
 use lib.Seq.{length-take-le}
-use Rattle.program_text.specs.Loads.{LoadsText}
+use Rattle.program_text.specs.TextLoads.{LoadsText}
 use Rattle.guarded.proofs.Answered.{refused-is, text-refused, text-loaded}
 use borrow.Author.Needs.{needs}
 use Rattle.guarded.proofs.run_text.Statement.{statement}

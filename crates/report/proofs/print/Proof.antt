@@ -2,7 +2,7 @@
 use mathlib.Core.Path.{sym, ap, _∙_}
 use borrow.Author.Needs.{needs}
 use denote.Ref.{now}
-use Rattle.report.specs.Lines.{reported, linesFrom}
+use Rattle.report.specs.ReportLines.{reported, linesFrom}
 use Rattle.report.proofs.Placing.{writes-as}
 use Rattle.report.proofs.Showing.{shown, shown-entry}
 use Rattle.report.proofs.print.Statement.{statement}

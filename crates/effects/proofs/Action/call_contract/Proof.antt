@@ -1,12 +1,12 @@
--- `effects::Action::call_contract` meets its contract: by the kind.
+-- `effects::Effect::call_contract` meets its contract: by the kind.
 use mathlib.Core.Path.{refl}
-use Rattle.effects.specs.Actions.{meant, Placed}
-use Rattle.effects.proofs.Action.call_contract.Statement.{statement}
-use Rattle.effects.proofs.Action.call_contract.Tie as tie
+use Rattle.effects.specs.Effects.{meant, Placed}
+use Rattle.effects.proofs.Effect.call_contract.Statement.{statement}
+use Rattle.effects.proofs.Effect.call_contract.Tie as tie
 
 returns : tie.Need-returns
 unfolding meant Placed
-returns c l = record { effect = λ t. refl; placed = tt }
+returns c l = record { change = λ t. refl; placed = tt }
 
 pub call-contract-spec : {M : Type 1} → statement M
 call-contract-spec = tie.close (tie.spec returns)

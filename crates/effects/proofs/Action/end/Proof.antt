@@ -1,12 +1,12 @@
--- `effects::Action::end` meets its contract: by the kind.
+-- `effects::Effect::end` meets its contract: by the kind.
 use mathlib.Core.Path.{refl}
-use Rattle.effects.specs.Actions.{meant, Placed}
-use Rattle.effects.proofs.Action.end.Statement.{statement}
-use Rattle.effects.proofs.Action.end.Tie as tie
+use Rattle.effects.specs.Effects.{meant, Placed}
+use Rattle.effects.proofs.Effect.end.Statement.{statement}
+use Rattle.effects.proofs.Effect.end.Tie as tie
 
 returns : tie.Need-returns
 unfolding meant Placed
-returns c l = record { effect = λ t. refl; placed = tt }
+returns c l = record { change = λ t. refl; placed = tt }
 
 pub end-spec : {M : Type 1} → statement M
 end-spec = tie.close (tie.spec returns)

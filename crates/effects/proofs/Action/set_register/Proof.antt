@@ -1,12 +1,12 @@
--- `effects::Action::set_register` meets its contract: by the kind.
+-- `effects::Effect::set_register` meets its contract: by the kind.
 use mathlib.Core.Path.{refl}
-use Rattle.effects.specs.Actions.{meant, Placed}
-use Rattle.effects.proofs.Action.set_register.Statement.{statement}
-use Rattle.effects.proofs.Action.set_register.Tie as tie
+use Rattle.effects.specs.Effects.{meant, Placed}
+use Rattle.effects.proofs.Effect.set_register.Statement.{statement}
+use Rattle.effects.proofs.Effect.set_register.Tie as tie
 
 returns : tie.Need-returns
 unfolding meant Placed
-returns c l = record { effect = λ t. refl; placed = tt }
+returns c l = record { change = λ t. refl; placed = tt }
 
 pub set-register-spec : {M : Type 1} → statement M
 set-register-spec = tie.close (tie.spec returns)

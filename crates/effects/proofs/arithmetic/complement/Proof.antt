@@ -3,7 +3,7 @@ use mathlib.Core.Path.{sym, _∙_}
 use borrow.Author.Needs.{needs}
 use Rattle.rules.specs.Field.{isElement, fieldComplement}
 use Rattle.goldilocks.proofs.Elements.{element, none}
-use Rattle.effects.specs.Effects.{check}
+use Rattle.effects.specs.Changes.{check}
 use Rattle.effects.proofs.arithmetic.complement.Statement.{statement}
 use Rattle.effects.proofs.arithmetic.complement.Tie as tie
 

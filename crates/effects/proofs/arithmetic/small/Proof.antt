@@ -4,7 +4,7 @@ use mathlib.Core.Bool.{true, false}
 use borrow.Author.Needs.{needs}
 use borrow.Author.Tests.{not-true, not-false}
 use Rattle.rules.specs.Step.{isSmall}
-use Rattle.effects.specs.Effects.{check}
+use Rattle.effects.specs.Changes.{check}
 use Rattle.effects.proofs.arithmetic.small.Statement.{statement}
 use Rattle.effects.proofs.arithmetic.small.Tie as tie
 

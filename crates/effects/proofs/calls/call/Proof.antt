@@ -2,7 +2,7 @@
 use native.Mathlib.Omega.{arith}
 use borrow.Author.Needs.{needs}
 use borrow.Author.Tests.{le-leb, lt-leb}
-use Rattle.effects.specs.Effects.{check}
+use Rattle.effects.specs.Changes.{check}
 use Rattle.effects.proofs.calls.call.Statement.{statement}
 use Rattle.effects.proofs.calls.call.Tie as tie
 

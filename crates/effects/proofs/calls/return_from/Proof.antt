@@ -12,8 +12,8 @@ use Rattle.rules.specs.declared.Refusal.the-variants.{CellAbsent}
 use Rattle.hardware.specs.declared.cells.Found.the-variants.{At, Absent}
 use Rattle.hardware.specs.Buffers.{foundOf, cellsOf}
 use Rattle.hardware.proofs.BufferLaws.{found-within}
-use Rattle.effects.specs.Actions.{SetRegister, Refuse}
-use Rattle.effects.specs.Effects.{sinkWhere, returnsFrom}
+use Rattle.effects.specs.Effects.{SetRegister, Refuse}
+use Rattle.effects.specs.Changes.{sinkWhere, returnsFrom}
 use Rattle.effects.proofs.CellsBelow.{next-present, next-other, next-end, first-absent, second-absent, no-second, both-present}
 use Rattle.effects.proofs.calls.return_from.Statement.{statement}
 use Rattle.effects.proofs.calls.return_from.Tie as tie

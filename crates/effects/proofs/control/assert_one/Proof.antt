@@ -1,7 +1,7 @@
 -- `effects::control::assert_one` meets its contract: by the test.
 use borrow.Author.Needs.{needs}
 use borrow.Author.Tests.{eq-eqb, ne-eqb}
-use Rattle.effects.specs.Effects.{check}
+use Rattle.effects.specs.Changes.{check}
 use Rattle.effects.proofs.control.assert_one.Statement.{statement}
 use Rattle.effects.proofs.control.assert_one.Tie as tie
 

@@ -3,7 +3,7 @@ use native.Mathlib.Omega.{arith}
 use borrow.Author.Needs.{needs}
 use borrow.Author.Tests.{le-leb, lt-leb}
 use Rattle.rules.specs.Numbers.{smallEnd}
-use Rattle.effects.specs.Effects.{check}
+use Rattle.effects.specs.Changes.{check}
 use Rattle.effects.proofs.control.check_range.Statement.{statement}
 use Rattle.effects.proofs.control.check_range.Tie as tie
 

@@ -4,7 +4,7 @@ use mathlib.Core.Bool.{true, false}
 use native.Mathlib.Omega.{arith}
 use borrow.Author.Needs.{needs}
 use borrow.Author.Tests.{le-leb, lt-leb, eq-eqb, ne-eqb}
-use Rattle.effects.specs.Effects.{check, onResult, sinkWhere}
+use Rattle.effects.specs.Changes.{check, onResult, sinkWhere}
 use Rattle.effects.proofs.control.jump_where.Statement.{statement}
 use Rattle.effects.proofs.control.jump_where.Tie as tie
 

@@ -4,7 +4,7 @@ use native.Mathlib.Omega.{arith}
 use lib.ListN.{take}
 use borrow.Author.Needs.{needs}
 use Rattle.effects.specs.declared.memory.Tested.the-variants.{Passes}
-use Rattle.effects.specs.Effects.{check}
+use Rattle.effects.specs.Changes.{check}
 use Rattle.effects.specs.Operations.{testOf}
 use Rattle.effects.proofs.StoreTests.{capacity-present, capacity-new, capacity-none}
 use Rattle.effects.proofs.memory.store_cell.Statement.{statement}

@@ -5,7 +5,7 @@ use native.Mathlib.Omega.{arith}
 use lib.ListN.{length}
 use borrow.Author.Needs.{needs}
 use borrow.Author.Tests.{le-leb, lt-leb}
-use Rattle.effects.specs.Effects.{check, sinkWhere}
+use Rattle.effects.specs.Changes.{check, sinkWhere}
 use Rattle.effects.proofs.Spans.{among-within}
 use Rattle.effects.proofs.tape.call_contract.Statement.{statement}
 use Rattle.effects.proofs.tape.call_contract.Tie as tie

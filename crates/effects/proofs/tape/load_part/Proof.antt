@@ -6,7 +6,7 @@ use lib.ListN.{length}
 use borrow.Author.Needs.{needs}
 use borrow.Author.Tests.{leb-false}
 use Rattle.rules.specs.Numbers.{wordEnd}
-use Rattle.effects.specs.Effects.{check}
+use Rattle.effects.specs.Changes.{check}
 use Rattle.effects.specs.Operations.{testsOf}
 use Rattle.effects.proofs.ReadValues.{part-length}
 use Rattle.effects.proofs.TapeParts.{part-between}

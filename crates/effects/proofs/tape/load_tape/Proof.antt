@@ -3,7 +3,7 @@ use mathlib.Core.Path.{sym, _∙_}
 use native.Mathlib.Omega.{arith}
 use borrow.Author.Needs.{needs}
 use borrow.Author.Tests.{not-true, not-false}
-use Rattle.effects.specs.Effects.{check}
+use Rattle.effects.specs.Changes.{check}
 use Rattle.effects.proofs.TapeParts.{part-on-tape}
 use Rattle.effects.proofs.tape.load_tape.Statement.{statement}
 use Rattle.effects.proofs.tape.load_tape.Tie as tie

@@ -1,4 +1,4 @@
--- `interpreter::carrying::carry_out` meets its contract: a law for each kind of action.
+-- `interpreter::carrying::carry_out` meets its contract: a law for each kind of effect.
 use Prim.Native.Nat.{ℕ, _<_}
 use mathlib.Core.Path.{_≡_, refl, ap, subst}
 use mathlib.Core.Bool.{Bool}
@@ -7,9 +7,9 @@ use native.Mathlib.Omega.{arith}
 use lib.ListN.{length, take, length-set}
 use lib.Seq.{take-set-lt, drop-set-lt}
 use borrow.Author.Needs.{needs}
-use Rattle.effects.specs.declared.Kind.{Kind}
-use Rattle.effects.specs.declared.Action.{Action}
-use Rattle.effects.specs.Actions.{Effect, byKind, meant, placedBy, Placed}
+use Rattle.effects.specs.declared.EffectKind.{EffectKind}
+use Rattle.effects.specs.declared.Effect.{Effect}
+use Rattle.effects.specs.Effects.{Change, byKind, meant, placedBy, Placed}
 use Rattle.interpreter.specs.Cores.{Core, coreOf}
 use Rattle.interpreter.proofs.Arms.{Applies, applies, register-named, write-asks, insert-asks, load-asks, tape-asks, output-asks, call-asks}
 use Rattle.interpreter.proofs.Arms.{sets-register, writes-cell, stores-cell, jumps, loads-tape, stores-tape, calls-contract}
@@ -23,10 +23,10 @@ core clk s =
     coreOf (a .mode) (take 10 (a .values .now)) (a .pc) clk (a .counts) (a .addresses .now) (a .numbers .now) (a .marks .now) (a .tape .now)
     (a .output .now)
 
-abbrev effect : tie.Start → Effect
-effect s = meant (s .args .mark) (s .args .action)
+abbrev change : tie.Start → Change
+change s = meant (s .args .mark) (s .args .effect)
 
-can : (clk : ℕ) (s : tie.Start) → Applies (effect s) (core clk s)
+can : (clk : ℕ) (s : tie.Start) → Applies (change s) (core clk s)
 can clk s = applies clk (s .pre .1 .1)
 
 four : (s : tie.Start) → length (s .args .storage-addr) ≡ 4
@@ -36,20 +36,20 @@ four s = search needs
 abbrev start : tie.After-slice-known6 → tie.Start
 start c = c .before .before .before .before .before .before
 
--- what an action of a known kind means, and where its cell is
-meant-by : (t : Bool) (a : Action) {k : Kind} → a .kind ≡ k → meant t a ≡ byKind k t a
+-- what an effect of a known kind means, and where its cell is
+meant-by : (t : Bool) (a : Effect) {k : EffectKind} → a .kind ≡ k → meant t a ≡ byKind k t a
 unfolding meant
-meant-by t a e = ap (λ (k : Kind). byKind k t a) e
+meant-by t a e = ap (λ (k : EffectKind). byKind k t a) e
 
-placed-by : (l : List ℕ) (a : Action) {k : Kind} → a .kind ≡ k → Placed l a → placedBy k l a
+placed-by : (l : List ℕ) (a : Effect) {k : EffectKind} → a .kind ≡ k → Placed l a → placedBy k l a
 unfolding Placed
-placed-by l a e p = subst (λ (k : Kind). placedBy k l a) e p
+placed-by l a e p = subst (λ (k : EffectKind). placedBy k l a) e p
 
-register-below : (c : tie.After-enum-told) → start (c .before .before) .args .action .place < 10
+register-below : (c : tie.After-enum-told) → start (c .before .before) .args .effect .place < 10
 register-below c =
     let s = start (c .before .before) in
-    let e = meant-by (s .args .mark) (s .args .action) (c .enum-told .given .1) in
-    register-named (core 0 s) (s .args .storage-addr) (effect s) (can 0 s) _ _ _ _ e
+    let e = meant-by (s .args .mark) (s .args .effect) (c .enum-told .given .1) in
+    register-named (core 0 s) (s .args .storage-addr) (change s) (can 0 s) _ _ _ _ e
 
 enum-told : tie.Need-enum-told
 enum-told c = search needs
@@ -70,8 +70,8 @@ write-at-requires : tie.Need-write-at-requires
 write-at-requires c κs =
     let t = c .before .before in
     let s = start (t .before .before) in
-    let f = placed-by _ (s .args .action) (t .enum-told2 .given .1) (s .pre .1 .0) in
-    write-asks (core 0 s) (s .args .storage-addr) (effect s) (can 0 s) _ _ f
+    let f = placed-by _ (s .args .effect) (t .enum-told2 .given .1) (s .pre .1 .0) in
+    write-asks (core 0 s) (s .args .storage-addr) (change s) (can 0 s) _ _ f
 
 enum-told-3 : tie.Need-enum-told-3
 enum-told-3 c = search needs
@@ -80,17 +80,17 @@ insert-requires : tie.Need-insert-requires
 insert-requires c κs =
     let t = c .before .before .before in
     let s = start (t .before .before) in
-    let e = meant-by (s .args .mark) (s .args .action) (t .enum-told3 .given .1) in
-    let f = placed-by _ (s .args .action) (t .enum-told3 .given .1) (s .pre .1 .0) in
-    insert-asks (core 0 s) (s .args .storage-addr) (effect s) (can 0 s) _ _ _ _ _ e f
+    let e = meant-by (s .args .mark) (s .args .effect) (t .enum-told3 .given .1) in
+    let f = placed-by _ (s .args .effect) (t .enum-told3 .given .1) (s .pre .1 .0) in
+    insert-asks (core 0 s) (s .args .storage-addr) (change s) (can 0 s) _ _ _ _ _ e f
 
 add-cells : tie.Need-add-cells
 add-cells c =
     let t = c .before .before .before .before .before .before .before .before .before .before .before in
     let s = start (t .before .before) in
-    let e = meant-by (s .args .mark) (s .args .action) (t .enum-told3 .given .1) in
-    let f = placed-by _ (s .args .action) (t .enum-told3 .given .1) (s .pre .1 .0) in
-    omega (arith, insert-asks (core 0 s) (s .args .storage-addr) (effect s) (can 0 s) _ _ _ _ _ e f .1 .0, s .good)
+    let e = meant-by (s .args .mark) (s .args .effect) (t .enum-told3 .given .1) in
+    let f = placed-by _ (s .args .effect) (t .enum-told3 .given .1) (s .pre .1 .0) in
+    omega (arith, insert-asks (core 0 s) (s .args .storage-addr) (change s) (can 0 s) _ _ _ _ _ e f .1 .0, s .good)
 
 enum-told-4 : tie.Need-enum-told-4
 enum-told-4 c = search needs
@@ -102,8 +102,8 @@ load-tape-requires : tie.Need-load-tape-requires
 load-tape-requires c κs =
     let t = c .before .before .before .before in
     let s = start (t .before .before) in
-    let e = meant-by (s .args .mark) (s .args .action) (t .enum-told5 .given .1) in
-    load-asks (core 0 s) (s .args .storage-addr) (effect s) (can 0 s) _ _ _ _ e
+    let e = meant-by (s .args .mark) (s .args .effect) (t .enum-told5 .given .1) in
+    load-asks (core 0 s) (s .args .storage-addr) (change s) (can 0 s) _ _ _ _ e
 
 enum-told-6 : tie.Need-enum-told-6
 enum-told-6 c = search needs
@@ -112,29 +112,29 @@ append-numbers-requires : tie.Need-append-numbers-requires
 append-numbers-requires c κs =
     let t = c .before .before in
     let s = start (t .before .before) in
-    let e = meant-by (s .args .mark) (s .args .action) (t .enum-told6 .given .1) in
-    tape-asks (core 0 s) (s .args .storage-addr) (effect s) (can 0 s) _ _ _ e
+    let e = meant-by (s .args .mark) (s .args .effect) (t .enum-told6 .given .1) in
+    tape-asks (core 0 s) (s .args .storage-addr) (change s) (can 0 s) _ _ _ e
 
 append-numbers-requires-2 : tie.Need-append-numbers-requires-2
 append-numbers-requires-2 c κs =
     let t = c .before .before .before .before .before .before .before in
     let s = start (t .before .before) in
-    let e = meant-by (s .args .mark) (s .args .action) (t .enum-told6 .given .1) in
-    output-asks (core 0 s) (s .args .storage-addr) (effect s) (can 0 s) _ _ _ e
+    let e = meant-by (s .args .mark) (s .args .effect) (t .enum-told6 .given .1) in
+    output-asks (core 0 s) (s .args .storage-addr) (change s) (can 0 s) _ _ _ e
 
 add-tape-count : tie.Need-add-tape-count
 add-tape-count c =
     let t = c .before .before .before .before .before .before .before .before .before .before .before in
     let s = start (t .before .before) in
-    let e = meant-by (s .args .mark) (s .args .action) (t .enum-told6 .given .1) in
-    omega (arith, tape-asks (core 0 s) (s .args .storage-addr) (effect s) (can 0 s) _ _ _ e .1, s .good)
+    let e = meant-by (s .args .mark) (s .args .effect) (t .enum-told6 .given .1) in
+    omega (arith, tape-asks (core 0 s) (s .args .storage-addr) (change s) (can 0 s) _ _ _ e .1, s .good)
 
 add-output-count : tie.Need-add-output-count
 add-output-count c =
     let t = c .before .before .before .before .before .before .before .before .before .before .before .before in
     let s = start (t .before .before) in
-    let e = meant-by (s .args .mark) (s .args .action) (t .enum-told6 .given .1) in
-    omega (arith, output-asks (core 0 s) (s .args .storage-addr) (effect s) (can 0 s) _ _ _ e .1, s .good)
+    let e = meant-by (s .args .mark) (s .args .effect) (t .enum-told6 .given .1) in
+    omega (arith, output-asks (core 0 s) (s .args .storage-addr) (change s) (can 0 s) _ _ _ e .1, s .good)
 
 enum-told-7 : tie.Need-enum-told-7
 enum-told-7 c = search needs
@@ -143,15 +143,15 @@ call-contract-requires : tie.Need-call-contract-requires
 call-contract-requires c κs =
     let t = c .before .before in
     let s = start (t .before .before) in
-    let e = meant-by (s .args .mark) (s .args .action) (t .enum-told7 .given .1) in
-    call-asks (core 0 s) (s .args .storage-addr) (effect s) (can 0 s) _ _ _ e
+    let e = meant-by (s .args .mark) (s .args .effect) (t .enum-told7 .given .1) in
+    call-asks (core 0 s) (s .args .storage-addr) (change s) (can 0 s) _ _ _ e
 
 add-tape-count-2 : tie.Need-add-tape-count-2
 add-tape-count-2 c =
     let t = c .before .before .before .before .before .before in
     let s = start (t .before .before) in
-    let e = meant-by (s .args .mark) (s .args .action) (t .enum-told7 .given .1) in
-    omega (arith, call-asks (core 0 s) (s .args .storage-addr) (effect s) (can 0 s) _ _ _ e .1, s .good)
+    let e = meant-by (s .args .mark) (s .args .effect) (t .enum-told7 .given .1) in
+    omega (arith, call-asks (core 0 s) (s .args .storage-addr) (change s) (can 0 s) _ _ _ e .1, s .good)
 
 enum-told-8 : tie.Need-enum-told-8
 enum-told-8 c = search needs
@@ -169,10 +169,10 @@ returns : tie.Need-returns
 returns c =
     let t = c .before .before in
     let s = start (t .before .before) in
-    let e = meant-by (s .args .mark) (s .args .action) (t .enum-told .given .1) in
+    let e = meant-by (s .args .mark) (s .args .effect) (t .enum-told .given .1) in
     let r = register-below t in
     let g = take-set-lt 10 (s .args .values .now) _ _ r in (
-      λ clk. sets-register (core clk s) (s .args .storage-addr) (effect s) (can clk s) _ _ _ _ _ _ e g (c .marks-after .ensures),
+      λ clk. sets-register (core clk s) (s .args .storage-addr) (change s) (can clk s) _ _ _ _ _ _ e g (c .marks-after .ensures),
       (length-set (s .args .values .now) _ _, drop-set-lt 10 (s .args .values .now) _ _ r),
     )
 
@@ -186,10 +186,10 @@ returns-2 : tie.Need-returns-2
 returns-2 c =
     let t = c .before .before .before .before .before .before .before in
     let s = start (t .before .before) in
-    let e = meant-by (s .args .mark) (s .args .action) (t .enum-told2 .given .1) in
-    let f = placed-by _ (s .args .action) (t .enum-told2 .given .1) (s .pre .1 .0) in
+    let e = meant-by (s .args .mark) (s .args .effect) (t .enum-told2 .given .1) in
+    let f = placed-by _ (s .args .effect) (t .enum-told2 .given .1) (s .pre .1 .0) in
     let w = c .before .before .before .before .write-at .ensures in
-    (λ clk. writes-cell (core clk s) (s .args .storage-addr) (effect s) (can clk s) _ _ _ _ _ _ _ e f (w .0) (w .1), (refl, refl))
+    (λ clk. writes-cell (core clk s) (s .args .storage-addr) (change s) (can clk s) _ _ _ _ _ _ _ e f (w .0) (w .1), (refl, refl))
 
 same-length-4 : tie.Need-same-length-4
 same-length-4 c = search needs
@@ -204,15 +204,15 @@ returns-3 : tie.Need-returns-3
 returns-3 c =
     let t = c .before .before .before .before .before .before .before .before .before .before .before in
     let s = start (t .before .before) in
-    let e = meant-by (s .args .mark) (s .args .action) (t .enum-told3 .given .1) in
+    let e = meant-by (s .args .mark) (s .args .effect) (t .enum-told3 .given .1) in
     let w = c .before .before .before .before .before .before .before .insert .ensures in
-    (λ clk. stores-cell (core clk s) (s .args .storage-addr) (effect s) (can clk s) _ _ _ _ _ _ _ _ e w, (refl, refl))
+    (λ clk. stores-cell (core clk s) (s .args .storage-addr) (change s) (can clk s) _ _ _ _ _ _ _ _ e w, (refl, refl))
 
 returns-4 : tie.Need-returns-4
 returns-4 c =
     let s = start (c .before .before) in
-    let e = meant-by (s .args .mark) (s .args .action) (c .enum-told4 .given .1) in
-    (λ clk. jumps (core clk s) (s .args .storage-addr) (effect s) (can clk s) _ e, (refl, refl))
+    let e = meant-by (s .args .mark) (s .args .effect) (c .enum-told4 .given .1) in
+    (λ clk. jumps (core clk s) (s .args .storage-addr) (change s) (can clk s) _ e, (refl, refl))
 
 same-length-7 : tie.Need-same-length-7
 same-length-7 c = search needs
@@ -230,9 +230,9 @@ returns-5 : tie.Need-returns-5
 returns-5 c =
     let t = c .before .before .before .before .before .before .before .before .before .before .before in
     let s = start (t .before .before) in
-    let e = meant-by (s .args .mark) (s .args .action) (t .enum-told5 .given .1) in
+    let e = meant-by (s .args .mark) (s .args .effect) (t .enum-told5 .given .1) in
     let w = c .before .before .before .before .before .before .load-tape .ensures in
-    (λ clk. loads-tape (core clk s) (s .args .storage-addr) (effect s) (can clk s) _ _ _ _ _ _ _ _ e w, (refl, refl))
+    (λ clk. loads-tape (core clk s) (s .args .storage-addr) (change s) (can clk s) _ _ _ _ _ _ _ _ e w, (refl, refl))
 
 same-length-11 : tie.Need-same-length-11
 same-length-11 c = search needs
@@ -247,10 +247,10 @@ returns-6 : tie.Need-returns-6
 returns-6 c =
     let t = c .before .before .before .before .before .before .before .before .before .before .before .before in
     let s = start (t .before .before) in
-    let e = meant-by (s .args .mark) (s .args .action) (t .enum-told6 .given .1) in
+    let e = meant-by (s .args .mark) (s .args .effect) (t .enum-told6 .given .1) in
     let w = c .before .before .before .before .before .before .before .before .before .append-numbers .ensures in
     let o = c .before .before .before .before .append-numbers2 .ensures in
-    (λ clk. stores-tape (core clk s) (s .args .storage-addr) (effect s) (can clk s) _ _ _ _ _ e w o, (refl, refl))
+    (λ clk. stores-tape (core clk s) (s .args .storage-addr) (change s) (can clk s) _ _ _ _ _ e w o, (refl, refl))
 
 same-length-14 : tie.Need-same-length-14
 same-length-14 c = search needs
@@ -262,28 +262,28 @@ returns-7 : tie.Need-returns-7
 returns-7 c =
     let t = c .before .before .before .before .before .before in
     let s = start (t .before .before) in
-    let e = meant-by (s .args .mark) (s .args .action) (t .enum-told7 .given .1) in
+    let e = meant-by (s .args .mark) (s .args .effect) (t .enum-told7 .given .1) in
     let w = c .before .before .before .call-contract .ensures in
-    (λ clk. calls-contract (core clk s) (s .args .storage-addr) (effect s) (can clk s) (four s) _ _ _ _ _ e (w .0) (w .1), (refl, refl))
+    (λ clk. calls-contract (core clk s) (s .args .storage-addr) (change s) (can clk s) (four s) _ _ _ _ _ e (w .0) (w .1), (refl, refl))
 
 returns-8 : tie.Need-returns-8
 returns-8 c =
     let s = start (c .before .before) in
-    let e = meant-by (s .args .mark) (s .args .action) (c .enum-told8 .given .1) in
-    (λ clk. ends-run (core clk s) (s .args .storage-addr) (effect s) (can clk s) _ e, (refl, refl))
+    let e = meant-by (s .args .mark) (s .args .effect) (c .enum-told8 .given .1) in
+    (λ clk. ends-run (core clk s) (s .args .storage-addr) (change s) (can clk s) _ e, (refl, refl))
 
 returns-9 : tie.Need-returns-9
 returns-9 c =
     let t = c .before in
     let s = start (t .before .before) in
-    let e = meant-by (s .args .mark) (s .args .action) (t .kind .given .1) in
-    (λ clk. refuses-step (core clk s) (s .args .storage-addr) (effect s) (can clk s) _ e, (refl, refl))
+    let e = meant-by (s .args .mark) (s .args .effect) (t .kind .given .1) in
+    (λ clk. refuses-step (core clk s) (s .args .storage-addr) (change s) (can clk s) _ e, (refl, refl))
 
 returns-10 : tie.Need-returns-10
 returns-10 c =
     let s = start (c .before .before) in
-    let e = meant-by (s .args .mark) (s .args .action) (c .enum-told9 .given .1) in
-    (λ clk. sinks (core clk s) (s .args .storage-addr) (effect s) (can clk s) e, (refl, refl))
+    let e = meant-by (s .args .mark) (s .args .effect) (c .enum-told9 .given .1) in
+    (λ clk. sinks (core clk s) (s .args .storage-addr) (change s) (can clk s) e, (refl, refl))
 
 pub carry-out-spec : {M : Type 1} → statement M
 carry-out-spec =

@@ -5,7 +5,7 @@ use borrow.Author.Needs.{needs}
 use Rattle.rules.specs.declared.OlaOpcode.the-variants as O
 use Rattle.rules.specs.Opcodes.{classOf}
 use Rattle.rules.specs.Operands.{wantsOf}
-use Rattle.program.specs.Rows.{lookedAt}
+use Rattle.program.specs.Table.{lookedAt}
 use Rattle.program.proofs.ByOpcode.{alike}
 use Rattle.operands.proofs.opcodes.wants_of.Statement.{statement}
 use Rattle.operands.proofs.opcodes.wants_of.Tie as tie

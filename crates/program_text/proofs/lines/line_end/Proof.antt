@@ -4,7 +4,7 @@ use Prim.Native.Nat.{_+_, _-_, _≤_}
 use native.Mathlib.Omega.{arith}
 use native.Mathlib.Numerals.{add-one}
 use lib.ListN.{length, drop}
-use Rattle.program_text.specs.Lines.{lineLength}
+use Rattle.program_text.specs.TextLines.{lineLength}
 use Rattle.program_text.proofs.Breaking.{length-feed, length-other, length-end}
 use Rattle.program_text.proofs.lines.line_end.Statement.{statement}
 use Rattle.program_text.proofs.lines.line_end.Tie as tie

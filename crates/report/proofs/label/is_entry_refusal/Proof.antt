@@ -1,7 +1,7 @@
 -- `report::label::is_entry_refusal` meets its contract: a case each.
 use mathlib.Core.Path.{sym, ap}
 use borrow.Author.Needs.{needs}
-use Rattle.report.specs.Lines.{isEntryLabel}
+use Rattle.report.specs.ReportLines.{isEntryLabel}
 use Rattle.report.proofs.label.is_entry_refusal.Statement.{statement}
 use Rattle.report.proofs.label.is_entry_refusal.Tie as tie
 

@@ -2,7 +2,7 @@
 use mathlib.Core.Path.{sym, ap, subst}
 use borrow.Author.Needs.{needs}
 use Rattle.rules.specs.Answers.{Meaning, meaning}
-use Rattle.report.specs.Lines.{Labels}
+use Rattle.report.specs.ReportLines.{Labels}
 use Rattle.report.proofs.Showing.{labels-outcome, labels-refusal}
 use Rattle.report.proofs.label.label_of.Statement.{statement}
 use Rattle.report.proofs.label.label_of.Tie as tie

@@ -6,7 +6,7 @@ use lib.ListN.{set}
 use borrow.Author.Needs.{needs}
 use denote.Ref.{now}
 use Rattle.rules.specs.Hexadecimal.{shortestHex}
-use Rattle.rules.specs.Solve.{field}
+use Rattle.rules.specs.Solve.{spaced}
 use Rattle.report.proofs.Placing.{Rest, placed-one, placed-length, rest-all, rest-after}
 use Rattle.report.proofs.lines.put_field.Statement.{statement}
 use Rattle.report.proofs.lines.put_field.Tie as tie
@@ -14,7 +14,7 @@ use Rattle.report.proofs.lines.put_field.Tie as tie
 slice-write-buffer : tie.Need-slice-write-buffer
 slice-write-buffer c = search needs
 
-left : (c : tie.Start) → let a = c .args in Rest (field (a .v)) (now (a .buffer)) (a .at) (shortestHex (a .v)) (set (now (a .buffer)) (a .at) 32) (a .at + 1)
+left : (c : tie.Start) → let a = c .args in Rest (spaced (a .v)) (now (a .buffer)) (a .at) (shortestHex (a .v)) (set (now (a .buffer)) (a .at) 32) (a .at + 1)
 left c =
     let a = c .args in
     rest-after (32 ∷ []) (shortestHex (a .v)) (rest-all (c .pre)) (placed-one (now (a .buffer)) (a .at) 32 (omega (arith, c .pre)))

@@ -2,8 +2,8 @@
 use mathlib.Core.List.{_++_}
 use borrow.Author.Needs.{needs}
 use denote.Ref.{now}
-use Rattle.rules.specs.Solve.{kilosteps, field}
-use Rattle.report.specs.Lines.{fields}
+use Rattle.rules.specs.Solve.{kilosteps, spaced}
+use Rattle.report.specs.ReportLines.{fields}
 use Rattle.report.proofs.Placing.{Rest, rest-all, first-fits, rest-after}
 use Rattle.report.proofs.lines.put_fields.Statement.{statement}
 use Rattle.report.proofs.lines.put_fields.Tie as tie
@@ -16,29 +16,29 @@ all-left c = rest-all (c .pre)
 
 left-1 : (c : tie.After-slice-known2)
     → let a = c .before .before .before .before .before .args in
-    Rest (fields (a .steps) (a .pc) (a .clk)) (now (a .buffer)) (a .at) (field (a .pc) ++ (field (a .clk) ++ field (kilosteps (a .clk)))) (c .before .before .put-field .last .0) (c .before .before .put-field .result)
+    Rest (fields (a .steps) (a .pc) (a .clk)) (now (a .buffer)) (a .at) (spaced (a .pc) ++ (spaced (a .clk) ++ spaced (kilosteps (a .clk)))) (c .before .before .put-field .last .0) (c .before .before .put-field .result)
 unfolding fields
-left-1 c = rest-after (field (c .before .before .before .before .before .args .steps)) _ (all-left (c .before .before .before .before .before)) (c .before .before .put-field .ensures)
+left-1 c = rest-after (spaced (c .before .before .before .before .before .args .steps)) _ (all-left (c .before .before .before .before .before)) (c .before .before .put-field .ensures)
 
 left-2 : (c : tie.After-slice-known3)
     → let a = c .before .before .before .before .before .before .before .before .before .args in
-    Rest (fields (a .steps) (a .pc) (a .clk)) (now (a .buffer)) (a .at) (field (a .clk) ++ field (kilosteps (a .clk))) (c .before .before .put-field2 .last .0) (c .before .before .put-field2 .result)
-left-2 c = rest-after (field (c .before .before .before .before .before .before .before .before .before .args .pc)) _ (left-1 (c .before .before .before .before)) (c .before .before .put-field2 .ensures)
+    Rest (fields (a .steps) (a .pc) (a .clk)) (now (a .buffer)) (a .at) (spaced (a .clk) ++ spaced (kilosteps (a .clk))) (c .before .before .put-field2 .last .0) (c .before .before .put-field2 .result)
+left-2 c = rest-after (spaced (c .before .before .before .before .before .before .before .before .before .args .pc)) _ (left-1 (c .before .before .before .before)) (c .before .before .put-field2 .ensures)
 
 left-3 : (c : tie.After-slice-known4)
     → let a = c .before .before .before .before .before .before .before .before .before .before .before .before .before .args in
-    Rest (fields (a .steps) (a .pc) (a .clk)) (now (a .buffer)) (a .at) (field (kilosteps (a .clk))) (c .before .before .put-field3 .last .0) (c .before .before .put-field3 .result)
-left-3 c = rest-after (field (c .before .before .before .before .before .before .before .before .before .before .before .before .before .args .clk)) _ (left-2 (c .before .before .before .before)) (c .before .before .put-field3 .ensures)
+    Rest (fields (a .steps) (a .pc) (a .clk)) (now (a .buffer)) (a .at) (spaced (kilosteps (a .clk))) (c .before .before .put-field3 .last .0) (c .before .before .put-field3 .result)
+left-3 c = rest-after (spaced (c .before .before .before .before .before .before .before .before .before .before .before .before .before .args .clk)) _ (left-2 (c .before .before .before .before)) (c .before .before .put-field3 .ensures)
 
 put-field-requires : tie.Need-put-field-requires
 unfolding fields
-put-field-requires c κs = first-fits (field (c .before .before .args .steps)) _ (all-left (c .before .before))
+put-field-requires c κs = first-fits (spaced (c .before .before .args .steps)) _ (all-left (c .before .before))
 
 put-field-requires-2 : tie.Need-put-field-requires-2
-put-field-requires-2 c κs = first-fits (field (c .before .before .before .before .before .before .args .pc)) _ (left-1 (c .before))
+put-field-requires-2 c κs = first-fits (spaced (c .before .before .before .before .before .before .args .pc)) _ (left-1 (c .before))
 
 put-field-requires-3 : tie.Need-put-field-requires-3
-put-field-requires-3 c κs = first-fits (field (c .before .before .before .before .before .before .before .before .before .before .args .clk)) _ (left-2 (c .before))
+put-field-requires-3 c κs = first-fits (spaced (c .before .before .before .before .before .before .before .before .before .before .args .clk)) _ (left-2 (c .before))
 
 kilosteps-requires : tie.Need-kilosteps-requires
 kilosteps-requires c κs = search needs

@@ -2,7 +2,7 @@
 use mathlib.Core.List.{[], _∷_, _++_}
 use native.Mathlib.Omega.{arith}
 use denote.Ref.{now}
-use Rattle.report.specs.Lines.{labelText, frameField, fields, firstLine}
+use Rattle.report.specs.ReportLines.{labelText, frameField, fields, firstLine}
 use Rattle.report.proofs.Placing.{Rest, placed-one, placed-length, rest-all, first-fits, rest-after}
 use Rattle.report.proofs.lines.put_first_line.Statement.{statement}
 use Rattle.report.proofs.lines.put_first_line.Tie as tie

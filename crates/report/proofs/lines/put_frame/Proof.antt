@@ -2,7 +2,7 @@
 use mathlib.Core.Path.{ap}
 use borrow.Author.Needs.{needs}
 use denote.Ref.{now}
-use Rattle.report.specs.Lines.{frameField}
+use Rattle.report.specs.ReportLines.{frameField}
 use Rattle.report.proofs.Placing.{placed-none, placed-as}
 use Rattle.report.proofs.lines.put_frame.Statement.{statement}
 use Rattle.report.proofs.lines.put_frame.Tie as tie

@@ -7,7 +7,7 @@ use lib.ListN.{length, set}
 use borrow.Author.Needs.{needs}
 use denote.Ref.{now}
 use Rattle.rules.specs.Hexadecimal.{shortestHex}
-use Rattle.report.specs.Lines.{labelText}
+use Rattle.report.specs.ReportLines.{labelText}
 use Rattle.report.proofs.Placing.{Rest, placed-one, placed-as, placed-length, rest-all, rest-after}
 use Rattle.report.proofs.lines.put_label.Statement.{statement}
 use Rattle.report.proofs.lines.put_label.Tie as tie

@@ -9,7 +9,7 @@ use borrow.Author.Tests.{leb-true, leb-false, not-true, not-false}
 use denote.Ref.{now}
 use Rattle.rules.specs.Solve.{valueLines}
 use Rattle.hexadecimal.proofs.Buffers.{no-space}
-use Rattle.report.specs.Lines.{firstLine, linesFrom}
+use Rattle.report.specs.ReportLines.{firstLine, linesFrom}
 use Rattle.report.proofs.Placing.{Rest, placed-writes, rest-all, rest-after}
 use Rattle.report.proofs.lines.put_lines.Statement.{statement}
 use Rattle.report.proofs.lines.put_lines.Tie as tie

@@ -5,7 +5,7 @@ use lib.ListN.{length-append}
 use borrow.Author.Needs.{needs}
 use denote.Ref.{now}
 use Rattle.rules.specs.Hexadecimal.{shortestHex}
-use Rattle.report.specs.Lines.{valueLine}
+use Rattle.report.specs.ReportLines.{valueLine}
 use Rattle.report.proofs.Placing.{Rest, placed-one, rest-all, rest-after}
 use Rattle.report.proofs.lines.put_value.Statement.{statement}
 use Rattle.report.proofs.lines.put_value.Tie as tie

@@ -7,7 +7,7 @@ use lib.ListN.{length, getD, drop}
 use borrow.Author.Needs.{needs}
 use denote.Ref.{now}
 use Rattle.rules.specs.Solve.{valueLines}
-use Rattle.report.specs.Lines.{valueLine}
+use Rattle.report.specs.ReportLines.{valueLine}
 use Rattle.report.proofs.Placing.{Rest, placed-none, placed-as, placed-length, rest-all, first-fits, rest-after}
 use Rattle.report.proofs.Lengths.{next-value, no-value}
 use Rattle.report.proofs.lines.put_values.Statement.{statement}

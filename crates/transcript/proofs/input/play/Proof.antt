@@ -42,8 +42,8 @@ slice-aggregate-play-lines c = search needs
 play-lines-requires : tie.Need-play-lines-requires Inv-loop μ-loop
 play-lines-requires c κs = search needs
 
-keep-requires : tie.Need-keep-requires Inv-loop μ-loop
-keep-requires c κs = search needs
+keep-rest-requires : tie.Need-keep-rest-requires Inv-loop μ-loop
+keep-rest-requires c κs = search needs
 
 sub-pieces : tie.Need-sub-pieces Inv-loop μ-loop
 sub-pieces c = search needs
@@ -76,7 +76,7 @@ play-spec =
     slice-reshare-prefix-play-lines
     slice-aggregate-play-lines
     play-lines-requires
-    keep-requires
+    keep-rest-requires
     sub-pieces
     loop-less
     loop-again

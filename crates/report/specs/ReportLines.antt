@@ -9,7 +9,7 @@ use Rattle.rules.specs.Text.{lineFeed}
 use Rattle.rules.specs.Answers.{Meaning, outcome, refusal, meaning}
 use Rattle.rules.specs.Entry.{Snapshot}
 use Rattle.rules.specs.Calls.{Called}
-use Rattle.rules.specs.Solve.{kilosteps, decimal, field, valueLines, isEntryRefusal}
+use Rattle.rules.specs.Solve.{kilosteps, decimal, spaced, valueLines, isEntryRefusal}
 use Rattle.report.specs.declared.label.Label.{Label}
 use Rattle.report.specs.declared.label.Label.the-variants as L
 
@@ -44,10 +44,10 @@ labelText (L.Malformed n) = decimal 2
 unfoldable pub frameField : Label → List ℕ
 frameField (L.Outcome n) = []
 frameField (L.Refusal n) = []
-frameField (L.Malformed n) = field n
+frameField (L.Malformed n) = spaced n
 
 unfoldable pub fields : ℕ → ℕ → ℕ → List ℕ
-fields steps pc clk = field steps ++ (field pc ++ (field clk ++ field (kilosteps clk)))
+fields steps pc clk = spaced steps ++ (spaced pc ++ (spaced clk ++ spaced (kilosteps clk)))
 
 unfoldable pub firstLine : Label → ℕ → ℕ → ℕ → List ℕ
 firstLine label steps pc clk = labelText label ++ (fields steps pc clk ++ (frameField label ++ (lineFeed ∷ [])))

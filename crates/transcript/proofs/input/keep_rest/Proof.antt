@@ -1,4 +1,4 @@
--- `transcript::input::keep` stays within the buffer, whose length it keeps.
+-- `transcript::input::keep_rest` stays within the buffer, whose length it keeps.
 use Prim.Native.Nat.{_+_, _-_, _≤_}
 use mathlib.Core.Path.{_≡_}
 use native.Mathlib.Omega.{arith}
@@ -44,8 +44,8 @@ same-length c = search needs
 returns : tie.Need-returns Inv-loop μ-loop
 returns c = counts _ _ (omega arith)
 
-pub keep-spec : {M : Type 1} → statement M
-keep-spec =
+pub keep-rest-spec : {M : Type 1} → statement M
+keep-rest-spec =
     tie.close
     (tie.spec
     Inv-loop

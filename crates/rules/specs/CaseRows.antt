@@ -138,8 +138,8 @@ e0 = outcome 0 []
 abbrev pub e3 : Meaning
 e3 = outcome 3 []
 
-abbrev pub refused : ℕ → Meaning
-refused n = refusal n []
+abbrev pub refusedBy : ℕ → Meaning
+refusedBy n = refusal n []
 
 -- What is looked at after a call: nothing; a register's number; a cell's number, where it is present; how many are; clk
 
@@ -180,7 +180,7 @@ abbrev pub pairOf : {S T : Type 0} → Meaning → Called S → Meaning → Call
 pairOf m c n d = record { both = row c nothing m 0 []; mended = row d nothing n 0 [] }
 
 abbrev pub pair : {S T : Type 0} → ℕ → Called S → ℕ → Called T → Pair
-pair m c n d = pairOf (refused m) c (refused n) d
+pair m c n d = pairOf (refusedBy m) c (refusedBy n) d
 
 -- one plain step: two programs from one start; one program from two starts
 abbrev pub inStep : Start → ℕ → List ℕ → ℕ → List ℕ → Pair
