@@ -10,7 +10,7 @@ use borrow.Author.Tests.{le-leb, lt-leb}
 use Rattle.rules.specs.declared.Refusal.the-variants.{CellAbsent}
 use Rattle.rules.specs.Results.{refuse, pass, require}
 use Rattle.rules.specs.Memory.{Slot, absent, present}
-use Rattle.rules.specs.Cells.{Cells, get, cells}
+use Rattle.rules.specs.Cells.{Cells, get, numberCells, markCells}
 use Rattle.rules.specs.Step.{slotValue, readBelow}
 use Rattle.rules.specs.Guarded.{cellMark}
 use Rattle.hardware.specs.declared.cells.Found.the-variants as Found
@@ -45,22 +45,22 @@ module _ (guarded : Bool) (n : ℕ) (xs ns ts : List ℕ) (o : Ordered guarded n
   abbrev t : Cells ℕ
   t = cellsOf n xs ts
 
-  below-present : (k i : ℕ) → k ≤ r → foundOf (take n xs) (r - k) ≡ Found.At i → readBelow (cells ℕ) c r k ≡ pass (getD ns i 0)
+  below-present : (k i : ℕ) → k ≤ r → foundOf (take n xs) (r - k) ≡ Found.At i → readBelow numberCells c r k ≡ pass (getD ns i 0)
   unfolding require
   below-present k i h f = rw (le-leb k r h, get-found n xs ns (o .addresses) (o .level) (r - k) i f)
 
-  mark-found : (a i : ℕ) → foundOf (take n xs) a ≡ Found.At i → (guarded && cellMark (cells ℕ) t a) ≡ (guarded && eqb (getD ts i 0) 1)
+  mark-found : (a i : ℕ) → foundOf (take n xs) a ≡ Found.At i → (guarded && cellMark markCells t a) ≡ (guarded && eqb (getD ts i 0) 1)
   mark-found a i f = go guarded refl
     where
-      go : (s : Bool) → guarded ≡ s → (s && cellMark (cells ℕ) t a) ≡ (s && eqb (getD ts i 0) 1)
+      go : (s : Bool) → guarded ≡ s → (s && cellMark markCells t a) ≡ (s && eqb (getD ts i 0) 1)
       go true e = rw (get-found n xs ts (o .addresses) (o .markLevel e) a i f)
       go false e = refl
 
-  below-absent : (k i : ℕ) → foundOf (take n xs) (r - k) ≡ Found.Absent i → readBelow (cells ℕ) c r k ≡ refuse CellAbsent
+  below-absent : (k i : ℕ) → foundOf (take n xs) (r - k) ≡ Found.Absent i → readBelow numberCells c r k ≡ refuse CellAbsent
   unfolding require
   below-absent k i f = rw (get-absent n xs ns (o .addresses) (o .level) (r - k) i f) (go (leb k r))
     where
-      go : (s : Bool) → require s CellAbsent (slotValue (cells ℕ) absent) ≡ refuse CellAbsent
+      go : (s : Bool) → require s CellAbsent (slotValue numberCells absent) ≡ refuse CellAbsent
       go true = refl
       go false = refl
 
@@ -70,11 +70,11 @@ module _ (guarded : Bool) (n : ℕ) (xs ns ts : List ℕ) (o : Ordered guarded n
   unfolding onResult
   first-absent i f = rw (below-absent 1 i f)
 
-  second-refuses : readBelow (cells ℕ) c r 2 ≡ refuse CellAbsent → returnsFrom guarded c t r ≡ Refuse CellAbsent
+  second-refuses : readBelow numberCells c r 2 ≡ refuse CellAbsent → returnsFrom guarded c t r ≡ Refuse CellAbsent
   unfolding require onResult
   second-refuses e = rw e (go (leb 1 r) (get c (r - 1)))
     where
-      go : (s : Bool) (q : Slot ℕ) → onResult (require s CellAbsent (slotValue (cells ℕ) q)) (λ pc. Refuse CellAbsent) ≡ Refuse CellAbsent
+      go : (s : Bool) (q : Slot ℕ) → onResult (require s CellAbsent (slotValue numberCells q)) (λ pc. Refuse CellAbsent) ≡ Refuse CellAbsent
       go true absent = refl
       go true (present m) = refl
       go false q = refl

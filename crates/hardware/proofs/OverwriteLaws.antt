@@ -7,7 +7,7 @@ use native.Mathlib.Omega.{arith}
 use lib.ListN.{length, getD, take, drop, length-drop, take-append-drop}
 use lib.Seq.{length-take-le}
 use Rattle.rules.specs.Numbers.{choose, heapEnd, wordEnd}
-use Rattle.rules.specs.Cells.{Cells, put, addresses, contents, cells}
+use Rattle.rules.specs.Cells.{Cells, put, addresses, contents, markCells}
 use Rattle.rules.specs.Step.{overlay}
 use Rattle.rules.specs.Guarded.{cleanMany}
 use Rattle.rules.proofs.CellLaws.{length-addresses}
@@ -99,7 +99,7 @@ within-words a zero h k = omega arith
 within-words a (suc n) h k = let l : a + suc n ≤ heapEnd = k (omega arith) in omega arith
 
 -- many marks are cleared as many zeros are stored
-pub clean-zeros : (t : Cells ℕ) (a : ℕ) (vs : List ℕ) → cleanMany (cells ℕ) t a vs ≡ putMany t a (zeros vs)
+pub clean-zeros : (t : Cells ℕ) (a : ℕ) (vs : List ℕ) → cleanMany markCells t a vs ≡ putMany t a (zeros vs)
 unfolding cleanMany
 clean-zeros t a [] = refl
 clean-zeros t a (v ∷ vs) = clean-zeros (put t a 0) (suc a) vs
@@ -126,14 +126,14 @@ module _ (n : ℕ) (xs bs : List ℕ) (o : Rising n xs) (l : length bs ≡ lengt
 module _ (guarded : Bool) (n : ℕ) (xs ns ts : List ℕ) (o : Ordered guarded n xs ns ts) (a i : ℕ) (e : i ≡ rank (take n xs) a) (vs : List ℕ)
     (h : hasAll (take n xs) a (length vs) ≡ true) where
   marks-cleared : (s : Bool) → guarded ≡ s
-      → choose s (overwritten i (zeros vs) ts) ts ≡ choose s (overlay (contents (cleanMany (cells ℕ) (cellsOf n xs ts) a vs)) ts) ts
+      → choose s (overwritten i (zeros vs) ts) ts ≡ choose s (overlay (contents (cleanMany markCells (cellsOf n xs ts) a vs)) ts) ts
   marks-cleared true q =
       contents-kept n xs ts (o .addresses) (o .markLevel q) a i e (zeros vs) (ap (hasAll (take n xs) a) (length-zeros vs) ∙ h)
       ∙ ap (λ (t : Cells ℕ). overlay (contents t) ts) (sym (clean-zeros (cellsOf n xs ts) a vs))
   marks-cleared false q = refl
 
   pub overwritten-holds : (ns′ ts′ : List ℕ) → ns′ ≡ overwritten i vs ns → ts′ ≡ choose guarded (overwritten i (zeros vs) ts) ts
-      → Holding guarded (putMany (cellsOf n xs ns) a vs) (cleanMany (cells ℕ) (cellsOf n xs ts) a vs) n xs ns ts xs ns′ ts′
+      → Holding guarded (putMany (cellsOf n xs ns) a vs) (cleanMany markCells (cellsOf n xs ts) a vs) n xs ns ts xs ns′ ts′
   overwritten-holds ns′ ts′ f g =
       let w : n ≤ length xs = o .addresses .within in
       let c : addresses (putMany (cellsOf n xs ns) a vs) ≡ take n xs = present-cells n xs ns (o .addresses) (o .level) a i e vs h .0 in

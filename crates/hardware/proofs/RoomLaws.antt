@@ -7,7 +7,7 @@ use native.Mathlib.Omega.{arith}
 use lib.ListN.{length, getD, set, take, drop}
 use lib.Seq.{length-take-le, drop-length, drop-cons, getD-take, take-take}
 use Rattle.rules.specs.Numbers.{choose}
-use Rattle.rules.specs.Cells.{Cells, count, addresses, contents, cells}
+use Rattle.rules.specs.Cells.{Cells, count, addresses, contents, markCells}
 use Rattle.rules.specs.Step.{overlay}
 use Rattle.rules.specs.Guarded.{cleanMany}
 use Rattle.rules.proofs.CellLaws.{length-addresses}
@@ -123,7 +123,7 @@ module _ (guarded : Bool) (n : ℕ) (xs ns ts : List ℕ) (o : Ordered guarded n
   high = rank (take n xs) (a + length vs)
 
   marks-filled : (s : Bool) → guarded ≡ s → (ts₁ : List ℕ) → ts₁ ≡ choose s (moved n high (low + length vs) ts) ts
-      → choose s (overwritten low (zeros vs) ts₁) ts₁ ≡ choose s (overlay (contents (cleanMany (cells ℕ) (cellsOf n xs ts) a vs)) ts) ts
+      → choose s (overwritten low (zeros vs) ts₁) ts₁ ≡ choose s (overlay (contents (cleanMany markCells (cellsOf n xs ts) a vs)) ts) ts
   marks-filled true q ts₁ g =
       ap (overwritten low (zeros vs)) g
       ∙ contents-filled n xs ts (o .addresses) (o .markLevel q) a (length vs) (zeros vs) (sym (length-zeros vs)) low high e refl h
@@ -134,7 +134,7 @@ module _ (guarded : Bool) (n : ℕ) (xs ns ts : List ℕ) (o : Ordered guarded n
       → xs′ ≡ overlay (spliced low high (consecutive a (length vs)) (take n xs)) xs
       → ns₁ ≡ moved n high (low + length vs) ns → ts₁ ≡ choose guarded (moved n high (low + length vs) ts) ts
       → ns′ ≡ overwritten low vs ns₁ → ts′ ≡ choose guarded (overwritten low (zeros vs) ts₁) ts₁
-      → Holding guarded (putMany (cellsOf n xs ns) a vs) (cleanMany (cells ℕ) (cellsOf n xs ts) a vs) r xs ns ts xs′ ns′ ts′
+      → Holding guarded (putMany (cellsOf n xs ns) a vs) (cleanMany markCells (cellsOf n xs ts) a vs) r xs ns ts xs′ ns′ ts′
   room-holds r xs′ ns₁ ts₁ ns′ ts′ u f g k i j =
       let s = splice n xs ns (o .addresses) (o .level) a (length vs) vs refl low high e refl in
       record {

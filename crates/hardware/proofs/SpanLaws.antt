@@ -12,7 +12,7 @@ use Rattle.rules.specs.declared.Refusal.the-variants.{CellAbsent}
 use Rattle.rules.specs.Numbers.{choose}
 use Rattle.rules.specs.Results.{refuse, pass, bind}
 use Rattle.rules.specs.Memory.{Slot, absent, present}
-use Rattle.rules.specs.Cells.{Cells, none, cell, get, count, addresses, contents, cells}
+use Rattle.rules.specs.Cells.{Cells, none, cell, get, count, addresses, contents, numberCells, markCells}
 use Rattle.rules.specs.PlainMap.{isPresent}
 use Rattle.rules.specs.Step.{readMany}
 use Rattle.rules.specs.Guarded.{spanMark}
@@ -77,25 +77,25 @@ module _ (c : Cells ℕ) (r : risingFrom 0 (addresses c) ≡ true) where
       omega arith
 
   pub span-values : (a n : ℕ) → hasAll (addresses c) a n ≡ true
-      → readMany (cells ℕ) c a n ≡ pass (take n (drop (rank (addresses c) a) (contents c)))
+      → readMany numberCells c a n ≡ pass (take n (drop (rank (addresses c) a) (contents c)))
   unfolding readMany bind
   span-values a zero h = refl
   span-values a (suc n) h =
       let e : has (addresses c) a ≡ true = and-left (has (addresses c) a) _ h in
       rw (present-get 0 c a r e, span-values (suc a) n (and-right (has (addresses c) a) _ h), contents-from a e)
 
-  pub span-absent : (a n : ℕ) → hasAll (addresses c) a n ≡ false → readMany (cells ℕ) c a n ≡ refuse CellAbsent
+  pub span-absent : (a n : ℕ) → hasAll (addresses c) a n ≡ false → readMany numberCells c a n ≡ refuse CellAbsent
   unfolding readMany bind
   span-absent a zero h = absurd (false-true (sym h))
   span-absent a (suc n) h = go (span-absent (suc a) n) (has (addresses c) a) refl h
     where
-      go : (hasAll (addresses c) (suc a) n ≡ false → readMany (cells ℕ) c (suc a) n ≡ refuse CellAbsent) → (t : Bool) → has (addresses c) a ≡ t
-          → (t && hasAll (addresses c) (suc a) n) ≡ false → readMany (cells ℕ) c a (suc n) ≡ refuse CellAbsent
+      go : (hasAll (addresses c) (suc a) n ≡ false → readMany numberCells c (suc a) n ≡ refuse CellAbsent) → (t : Bool) → has (addresses c) a ≡ t
+          → (t && hasAll (addresses c) (suc a) n) ≡ false → readMany numberCells c a (suc n) ≡ refuse CellAbsent
       go k true e h = rw (present-get 0 c a r e, k h)
       go k false e h = rw (absent-get c a e)
 
   pub span-mark : (a n : ℕ) → hasAll (addresses c) a n ≡ true
-      → spanMark (cells ℕ) c a n ≡ anyMark (take n (drop (rank (addresses c) a) (contents c)))
+      → spanMark markCells c a n ≡ anyMark (take n (drop (rank (addresses c) a) (contents c)))
   unfolding spanMark
   span-mark a zero h = refl
   span-mark a (suc n) h =

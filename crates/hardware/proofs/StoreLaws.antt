@@ -12,7 +12,7 @@ use Rattle.rules.specs.declared.Refusal.{Refusal}
 use Rattle.rules.specs.declared.Refusal.the-variants.{StoreFault, ProphetStore}
 use Rattle.rules.specs.Numbers.{p, heapEnd, choose}
 use Rattle.rules.specs.Results.{refuse, pass, require}
-use Rattle.rules.specs.Cells.{Cells, none, cell, put, count, addresses, contents, cells, Rising}
+use Rattle.rules.specs.Cells.{Cells, none, cell, put, count, addresses, contents, numberCells, markCells, Rising}
 use Rattle.rules.specs.PlainMap.{isPresent}
 use Rattle.rules.specs.Step.{isStorable, storeMany}
 use Rattle.rules.specs.Guarded.{cleanMany}
@@ -73,7 +73,7 @@ addresses-put {A} {B} (cell d u t) (cell b w c) a x y e =
     go i h false false = ap (λ l. b ∷ l) h
 
 pub addresses-cleanMany : (t c : Cells ℕ) (a : ℕ) (vs : List ℕ) → addresses t ≡ addresses c
-    → addresses (cleanMany (cells ℕ) t a vs) ≡ addresses (putMany c a vs)
+    → addresses (cleanMany markCells t a vs) ≡ addresses (putMany c a vs)
 unfolding cleanMany
 addresses-cleanMany t c a [] e = e
 addresses-cleanMany t c a (v ∷ vs) e = addresses-cleanMany (put t a 0) (put c a v) (suc a) vs (addresses-put t c a 0 v e)
@@ -125,14 +125,14 @@ below-p : (a : ℕ) → a < heapEnd → a < p
 unfolding heapEnd p
 below-p a h = omega arith
 
-pub stored : (c : Cells ℕ) (a : ℕ) (vs : List ℕ) {d : Cells ℕ} → storeMany (cells ℕ) c a vs ≡ pass d → d ≡ putMany c a vs
+pub stored : (c : Cells ℕ) (a : ℕ) (vs : List ℕ) {d : Cells ℕ} → storeMany numberCells c a vs ≡ pass d → d ≡ putMany c a vs
 unfolding storeMany
 stored c a [] e = sym (pass-injective e)
 stored c a (v ∷ vs) e =
     stored (put c a v) (suc a) vs (require-pass (ltb a heapEnd) ProphetStore _ (require-pass (ltb a p) StoreFault _ (require-pass (isStorable v) StoreFault _ e .1) .1) .1)
 
 -- what it says of the tests
-pub stored-within : (c : Cells ℕ) (a : ℕ) (vs : List ℕ) {d : Cells ℕ} → storeMany (cells ℕ) c a vs ≡ pass d → 0 < length vs → a + length vs ≤ heapEnd
+pub stored-within : (c : Cells ℕ) (a : ℕ) (vs : List ℕ) {d : Cells ℕ} → storeMany numberCells c a vs ≡ pass d → 0 < length vs → a + length vs ≤ heapEnd
 unfolding storeMany
 stored-within c a [] e h = absurd (omega arith)
 stored-within c a (v ∷ vs) e h =
@@ -145,7 +145,7 @@ stored-within c a (v ∷ vs) e h =
     go k (w ∷ ws) i = let j : suc a + suc (length ws) ≤ heapEnd = i (omega arith) in omega arith
 
 pub stores : (c : Cells ℕ) (a : ℕ) (vs : List ℕ) → every isStorable vs ≡ true → (0 < length vs → a + length vs ≤ heapEnd)
-    → storeMany (cells ℕ) c a vs ≡ pass (putMany c a vs)
+    → storeMany numberCells c a vs ≡ pass (putMany c a vs)
 unfolding storeMany
 stores c a [] s h = refl
 stores c a (v ∷ vs) s h =

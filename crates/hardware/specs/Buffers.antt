@@ -8,7 +8,7 @@ use lib.ListN.{length, take}
 use Rattle.rules.specs.Numbers.{choose}
 use Rattle.rules.specs.Memory.{Slot, absent, present}
 use Rattle.rules.specs.Cells as Cells
-use Rattle.rules.specs.Cells.{Cells, zipped, get, put, count, cells}
+use Rattle.rules.specs.Cells.{Cells, zipped, get, put, count, markCells}
 use Rattle.rules.specs.Step.{overlay}
 use Rattle.rules.specs.Guarded.{cellMark}
 use Rattle.rules.specs.Entry.{risingFrom}
@@ -65,7 +65,7 @@ slotCell (present v) t = Cell.Present v t
 
 -- a cell, and in a guarded run its mark
 abbrev pub cellOf : Bool → Cells ℕ → Cells ℕ → ℕ → Cell
-cellOf guarded c t a = slotCell (get c a) (guarded && cellMark (cells ℕ) t a)
+cellOf guarded c t a = slotCell (get c a) (guarded && cellMark markCells t a)
 
 -- the cells with values from an address on
 abbrev pub putMany : Cells ℕ → ℕ → List ℕ → Cells ℕ

@@ -374,7 +374,7 @@ pub fn store_many(
     requires { ⌜ Ordered guarded count (now addresses) (now numbers) (now marks) ⌝ }
     requires { ⌜ (0 < length (now values) → start + length (now values) ≤ heapEnd) ⌝ }
     requires { ⌜ Cells.count (putMany (cellsOf count (now addresses) (now numbers)) start (now values)) ≤ length (now addresses) ⌝ }
-    ensures { λ r. ⌜ Holding guarded (putMany (cellsOf count (now (addresses .entry)) (now (numbers .entry))) start (now (values .entry))) (cleanMany (Cells.cells ℕ) (cellsOf count (now (addresses .entry)) (now (marks .entry))) start (now (values .entry))) r (now (addresses .entry)) (now (numbers .entry)) (now (marks .entry)) (now (addresses .exit)) (now (numbers .exit)) (now (marks .exit)) ⌝ }
+    ensures { λ r. ⌜ Holding guarded (putMany (cellsOf count (now (addresses .entry)) (now (numbers .entry))) start (now (values .entry))) (cleanMany Cells.markCells (cellsOf count (now (addresses .entry)) (now (marks .entry))) start (now (values .entry))) r (now (addresses .entry)) (now (numbers .entry)) (now (marks .entry)) (now (addresses .exit)) (now (numbers .exit)) (now (marks .exit)) ⌝ }
 {
     match find_span(addresses, count, start, values.len() as u64) {
         Span::At(at) => {

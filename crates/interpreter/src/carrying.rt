@@ -48,7 +48,7 @@ fn load_tape(
     requires { ⌜ from + n ≤ length (now tape) ⌝ }
     requires { ⌜ (0 < n → address + n ≤ heapEnd) ⌝ }
     requires { ⌜ Cells.count (putMany (cellsOf count (now addresses) (now numbers)) address (part from n (now tape))) ≤ length (now addresses) ⌝ }
-    ensures { λ r. ⌜ Holding guarded (putMany (cellsOf count (now (addresses .entry)) (now (numbers .entry))) address (part from n (now (tape .entry)))) (cleanMany (Cells.cells ℕ) (cellsOf count (now (addresses .entry)) (now (marks .entry))) address (part from n (now (tape .entry)))) r (now (addresses .entry)) (now (numbers .entry)) (now (marks .entry)) (now (addresses .exit)) (now (numbers .exit)) (now (marks .exit)) ⌝ }
+    ensures { λ r. ⌜ Holding guarded (putMany (cellsOf count (now (addresses .entry)) (now (numbers .entry))) address (part from n (now (tape .entry)))) (cleanMany Cells.markCells (cellsOf count (now (addresses .entry)) (now (marks .entry))) address (part from n (now (tape .entry)))) r (now (addresses .entry)) (now (numbers .entry)) (now (marks .entry)) (now (addresses .exit)) (now (numbers .exit)) (now (marks .exit)) ⌝ }
 {
     let end = from + n;
     hardware::cells::store_many(

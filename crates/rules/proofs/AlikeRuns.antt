@@ -8,7 +8,7 @@ use Rattle.rules.specs.declared.Instruction.{Instruction}
 use Rattle.rules.specs.declared.Refusal.the-variants.{NoCapacity}
 use Rattle.rules.specs.Numbers.{p}
 use Rattle.rules.specs.Results.{GuardedResult, passes, after, guard}
-use Rattle.rules.specs.Cells.{count, cells}
+use Rattle.rules.specs.Cells.{count, numberCells, markCells}
 use Rattle.rules.specs.Opcodes.{Class, field, equality, small, complement, move, assert, rangeCheck, jump, conditionalJump, call, return, load, store, tapeLoad, tapeStore, contractCall, end, uncovered, classOf}
 use Rattle.rules.specs.Operands.{fetch, wantsOf, Operands, operands}
 use Rattle.rules.specs.Step.{Environment, State, Next, fits, capacity, Ran}
@@ -95,7 +95,7 @@ bounded O.Event = tt
 
 -- All classes: what the operands' sinks let through agrees
 
-module _ (e : Environment) (t : MarkState (cells ℕ)) (i : Instruction) {s u : State (cells ℕ)} (n : StatesRelated t s u) where
+module _ (e : Environment) (t : MarkState markCells) (i : Instruction) {s u : State numberCells} (n : StatesRelated t s u) where
   abbrev marked0 : Bool
   marked0 = operandMark (t .registers) (i .op0)
 
@@ -151,15 +151,15 @@ module _ (e : Environment) (t : MarkState (cells ℕ)) (i : Instruction) {s u : 
 
 -- A whole guarded step of two related states with the same marks
 
-pub record GuardedRelated (q r : GuardedState (cells ℕ)) : Type 0 where
+pub record GuardedRelated (q r : GuardedState numberCells markCells) : Type 0 where
   pub marks : q .marks ≡ r .marks
   pub plain : StatesRelated (q .marks) (q .plain) (r .plain)
 
-pub record GuardedNextRelated (a b : GuardedNext (cells ℕ)) : Type 0 where
+pub record GuardedNextRelated (a b : GuardedNext numberCells markCells) : Type 0 where
   pub marks : a .marks ≡ b .marks
   pub next : NextRelated (a .marks) (a .next) (b .next)
 
-fits-alike : (e : Environment) {t : MarkState (cells ℕ)} {a b : State (cells ℕ)} → StatesRelated t a b → fits (cells ℕ) e a ≡ fits (cells ℕ) e b
+fits-alike : (e : Environment) {t : MarkState markCells} {a b : State numberCells} → StatesRelated t a b → fits numberCells e a ≡ fits numberCells e b
 fits-alike e {a = a} {b} n =
     let x : count (a .cells) ≡ count (b .cells) = cells-count (n .cells) in
     let y : a .tape ≡ b .tape = n .tape in
@@ -167,31 +167,31 @@ fits-alike e {a = a} {b} n =
     rw (x, y, z)
 
 -- past the sinks of what was read
-last-stage : (e : Environment) (c : Bool) (t : MarkState (cells ℕ)) {a b : Next (cells ℕ)} → (c ≡ false → NextRelated t a b)
+last-stage : (e : Environment) (c : Bool) (t : MarkState markCells) {a b : Next numberCells} → (c ≡ false → NextRelated t a b)
     → BothGuarded GuardedNextRelated
-    (guard c (after (capacity (cells ℕ) e a) λ n. passes (record { next = n; marks = t })))
-    (guard c (after (capacity (cells ℕ) e b) λ n. passes (record { next = n; marks = t })))
+    (guard c (after (capacity numberCells e a) λ n. passes (record { next = n; marks = t })))
+    (guard c (after (capacity numberCells e b) λ n. passes (record { next = n; marks = t })))
 unfolding guard
 last-stage e true t h = sink-alike
 last-stage e false t h =
     both-after _ _ (both-require NoCapacity (fits-alike e (h refl .state)) (passed (h refl))) λ a b r.
     passed-alike (record { marks = refl; next = r })
 
-module _ (e : Environment) (t : MarkState (cells ℕ)) {s u : State (cells ℕ)} (n : StatesRelated t s u) (i : Instruction) (c : Class) (l : Bounded c) {o q : Operands} (r : OperandsRelated t c i o q) where
-  rest-stage : Agreed e t c i s u o q → BothGuarded GuardedNextRelated (guardedRest (cells ℕ) e t c i s o) (guardedRest (cells ℕ) e t c i u q)
+module _ (e : Environment) (t : MarkState markCells) {s u : State numberCells} (n : StatesRelated t s u) (i : Instruction) (c : Class) (l : Bounded c) {o q : Operands} (r : OperandsRelated t c i o q) where
+  rest-stage : Agreed e t c i s u o q → BothGuarded GuardedNextRelated (guardedRest numberCells markCells e t c i s o) (guardedRest numberCells markCells e t c i u q)
   unfolding guardedRest
   rest-stage d =
       both-after _ _ (d .next) λ a b h.
-      rw (← (d .sinks), ← (d .marks)) (last-stage e (readSink (cells ℕ) t c i s o) (marksAfter (cells ℕ) t c i s o) h)
+      rw (← (d .sinks), ← (d .marks)) (last-stage e (readSink numberCells markCells t c i s o) (marksAfter numberCells markCells t c i s o) h)
 
   sink-stage : (b : Bool) → operandSink (t .registers) c i ≡ b
-      → BothGuarded GuardedNextRelated (guard b (guardedRest (cells ℕ) e t c i s o)) (guard b (guardedRest (cells ℕ) e t c i u q))
+      → BothGuarded GuardedNextRelated (guard b (guardedRest numberCells markCells e t c i s o)) (guard b (guardedRest numberCells markCells e t c i u q))
   unfolding guard
   sink-stage true k = sink-alike
   sink-stage false k = rest-stage (agreed e t i n c l r k)
 
-step-agrees : (e : Environment) (t : MarkState (cells ℕ)) {s u : State (cells ℕ)} → StatesRelated t s u
-    → BothGuarded GuardedNextRelated (guardedStep (cells ℕ) e (record { plain = s; marks = t })) (guardedStep (cells ℕ) e (record { plain = u; marks = t }))
+step-agrees : (e : Environment) (t : MarkState markCells) {s u : State numberCells} → StatesRelated t s u
+    → BothGuarded GuardedNextRelated (guardedStep numberCells markCells e (record { plain = s; marks = t })) (guardedStep numberCells markCells e (record { plain = u; marks = t }))
 unfolding guardedStep
 step-agrees e t {s} {u} n =
     both-after _ _ (both-equal (ap (fetch (e .program)) (n .pc))) λ i j k.
@@ -199,31 +199,31 @@ step-agrees e t {s} {u} n =
     (both-after _ _ (operands-read (e .psp) t (classOf (i .opcode)) i n) λ o q r.
     sink-stage e t n i (classOf (i .opcode)) (bounded (i .opcode)) r (operandSink (t .registers) (classOf (i .opcode)) i) refl)
   where
-    now : State (cells ℕ) → Instruction → GuardedResult (GuardedNext (cells ℕ))
+    now : State numberCells → Instruction → GuardedResult (GuardedNext numberCells markCells)
     now s i =
         after (operands (e .psp) (s .registers) (classOf (i .opcode)) i) λ o.
-        guard (operandSink (t .registers) (classOf (i .opcode)) i) (guardedRest (cells ℕ) e t (classOf (i .opcode)) i s o)
+        guard (operandSink (t .registers) (classOf (i .opcode)) i) (guardedRest numberCells markCells e t (classOf (i .opcode)) i s o)
 
 -- Whole runs
 
-abbrev at : State (cells ℕ) → MarkState (cells ℕ) → GuardedState (cells ℕ)
+abbrev at : State numberCells → MarkState markCells → GuardedState numberCells markCells
 at s t = record { plain = s; marks = t }
 
-go-on : (n : ℕ) (q r : GuardedState (cells ℕ)) (k : GuardedState (cells ℕ) → Ran (GuardedState (cells ℕ))) → GuardedRelated q r
-    → ((q r : GuardedState (cells ℕ)) → GuardedRelated q r → BothRan GuardedRelated (k q) (k r))
-    → {x y : GuardedResult (GuardedNext (cells ℕ))} → BothGuarded GuardedNextRelated x y
-    → BothRan GuardedRelated (onGuardedStep (cells ℕ) q x k) (onGuardedStep (cells ℕ) r y k)
+go-on : (n : ℕ) (q r : GuardedState numberCells markCells) (k : GuardedState numberCells markCells → Ran (GuardedState numberCells markCells)) → GuardedRelated q r
+    → ((q r : GuardedState numberCells markCells) → GuardedRelated q r → BothRan GuardedRelated (k q) (k r))
+    → {x y : GuardedResult (GuardedNext numberCells markCells)} → BothGuarded GuardedNextRelated x y
+    → BothRan GuardedRelated (onGuardedStep numberCells markCells q x k) (onGuardedStep numberCells markCells r y k)
 go-on n q r k h l refused-alike = record { answer = refl; steps = refl; state = h }
 go-on n q r k h l sink-alike = record { answer = refl; steps = refl; state = h }
 go-on n q r k h l (passed-alike {a} {b} x) =
     let y : GuardedRelated (at (a .next .state) (a .marks)) (at (b .next .state) (b .marks)) = record { marks = x .marks; plain = x .next .state } in
     both-finish GuardedRelated _ _ k k (x .next .finish) (x .next .state .clk) y (l _ _ y)
 
-pub run-agrees : (e : Environment) (n : ℕ) (q r : GuardedState (cells ℕ)) → GuardedRelated q r
-    → BothRan GuardedRelated (guardedRun (cells ℕ) e n q) (guardedRun (cells ℕ) e n r)
+pub run-agrees : (e : Environment) (n : ℕ) (q r : GuardedState numberCells markCells) → GuardedRelated q r
+    → BothRan GuardedRelated (guardedRun numberCells markCells e n q) (guardedRun numberCells markCells e n r)
 unfolding guardedRun
 run-agrees e zero q r h = record { answer = refl; steps = refl; state = h }
 run-agrees e (suc n) q r h =
-    go-on n q r (guardedRun (cells ℕ) e n) h (run-agrees e n)
-    (subst (λ t. BothGuarded GuardedNextRelated (guardedStep (cells ℕ) e q) (guardedStep (cells ℕ) e (at (r .plain) t))) (h .marks)
+    go-on n q r (guardedRun numberCells markCells e n) h (run-agrees e n)
+    (subst (λ t. BothGuarded GuardedNextRelated (guardedStep numberCells markCells e q) (guardedStep numberCells markCells e (at (r .plain) t))) (h .marks)
     (step-agrees e (q .marks) (h .plain)))

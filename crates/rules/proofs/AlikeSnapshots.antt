@@ -10,7 +10,7 @@ use lib.Seq.{take-append-le}
 use borrow.Author.Tests.{eqb-true}
 use Rattle.rules.specs.Numbers.{p}
 use Rattle.rules.specs.Cells as Cells
-use Rattle.rules.specs.Cells.{Cells, zipped, count, cells}
+use Rattle.rules.specs.Cells.{Cells, zipped, count, numberCells, markCells}
 use Rattle.rules.specs.Step.{State, isStorable, overlay}
 use Rattle.rules.specs.Guarded.{MarkState}
 use Rattle.rules.specs.Entry.{GuardedSnapshot, usedAddresses, usedNumbers, usedMarks, lowBits, wordOfBits, markedRegisters, markedCells, every, risingFrom, all, plainEntry, markedNumbersBelow, marksEntry, guardedEntry, stateOf, guardedStateOf, guardedSnapshotAfter}
@@ -223,7 +223,7 @@ output-same o u x y w z d e l =
     ∙ (cc)
     ∙ sym (take-append-le (length u) z (drop (length z) y) (let a : length o ≡ length u = ap length d in let b : length w ≡ length z = ap length e in omega arith))
 
-pub snapshots-left : (g h : GuardedSnapshot) → Alike g h → (t : MarkState (cells ℕ)) (s u : State (cells ℕ)) → StatesRelated t s u
+pub snapshots-left : (g h : GuardedSnapshot) → Alike g h → (t : MarkState markCells) (s u : State numberCells) → StatesRelated t s u
     → Alike (guardedSnapshotAfter g (record { plain = s; marks = t })) (guardedSnapshotAfter h (record { plain = u; marks = t }))
 snapshots-left g h al t s u n =
     let counts : count (s .cells) ≡ count (u .cells) = cells-count (n .cells) in

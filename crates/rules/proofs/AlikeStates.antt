@@ -15,7 +15,7 @@ use Rattle.rules.specs.Numbers.{p, choose, bit}
 use Rattle.rules.specs.Results.{pass, bind}
 use Rattle.rules.specs.Field.{isElement, fieldAdd, fieldMul}
 use Rattle.rules.specs.Memory.{Slot, absent, present}
-use Rattle.rules.specs.Cells.{Cells, none, cell, get, put, count, cells}
+use Rattle.rules.specs.Cells.{Cells, none, cell, get, put, count, numberCells, markCells}
 use Rattle.rules.specs.Operands.{Want, ignored, lacking, value, register, target, inField, valueOf, targetOf, absence, operand}
 use Rattle.rules.specs.Step.{State, Next, isStorable, slotValue, readBelow, readMany, readSpan, storeMany, storeOne}
 use Rattle.rules.specs.Guarded.{registerMark, operandMark, MarkState, slotMark, cellMark, spanMark, cleanMany}
@@ -39,7 +39,7 @@ pub data CellsRelated : Cells ℕ → Cells ℕ → Cells ℕ → Type 0 where
   cons : {a t v w : ℕ} {k c d : Cells ℕ} → Related (eqb t 1) v w → CellsRelated k c d
       → CellsRelated (cell a t k) (cell a v c) (cell a w d)
 
-pub record StatesRelated (t : MarkState (cells ℕ)) (s u : State (cells ℕ)) : Type 0 where
+pub record StatesRelated (t : MarkState markCells) (s u : State numberCells) : Type 0 where
   pub registers : RegistersRelated (t .registers) (s .registers) (u .registers)
   pub pc : s .pc ≡ u .pc
   pub clk : s .clk ≡ u .clk
@@ -50,7 +50,7 @@ pub record StatesRelated (t : MarkState (cells ℕ)) (s u : State (cells ℕ)) :
   pub within : length (s .output) ≤ length (s .written)
   pub ten : length (t .registers) ≡ 10
 
-pub record NextRelated (t : MarkState (cells ℕ)) (a b : Next (cells ℕ)) : Type 0 where
+pub record NextRelated (t : MarkState markCells) (a b : Next numberCells) : Type 0 where
   pub state : StatesRelated t (a .state) (b .state)
   pub finish : a .finish ≡ b .finish
 
@@ -148,20 +148,20 @@ cells-count (cons h t) = ap suc (cells-count t)
 
 -- reading
 
-slot-read : {k c d : Slot ℕ} → SlotsRelated k c d → Both (Related (slotMark (cells ℕ) k)) (slotValue (cells ℕ) c) (slotValue (cells ℕ) d)
+slot-read : {k c d : Slot ℕ} → SlotsRelated k c d → Both (Related (slotMark markCells k)) (slotValue numberCells c) (slotValue numberCells d)
 slot-read no-slot = both-refused
 slot-read (a-slot h) = passed h
 
 pub cell-read : {k c d : Cells ℕ} → CellsRelated k c d → (a : ℕ)
-    → Both (Related (cellMark (cells ℕ) k a)) (slotValue (cells ℕ) (get c a)) (slotValue (cells ℕ) (get d a))
+    → Both (Related (cellMark markCells k a)) (slotValue numberCells (get c a)) (slotValue numberCells (get d a))
 cell-read h a = slot-read (cells-get h a)
 
 pub below-read : {k c d : Cells ℕ} → CellsRelated k c d → (r n : ℕ)
-    → Both (Related (cellMark (cells ℕ) k (r - n))) (readBelow (cells ℕ) c r n) (readBelow (cells ℕ) d r n)
+    → Both (Related (cellMark markCells k (r - n))) (readBelow numberCells c r n) (readBelow numberCells d r n)
 below-read h r n = both-require CellAbsent refl (cell-read h (r - n))
 
 many-read : {k c d : Cells ℕ} → CellsRelated k c d → (a n : ℕ)
-    → Both (λ u v. spanMark (cells ℕ) k a n ≡ false → u ≡ v) (readMany (cells ℕ) c a n) (readMany (cells ℕ) d a n)
+    → Both (λ u v. spanMark markCells k a n ≡ false → u ≡ v) (readMany numberCells c a n) (readMany numberCells d a n)
 unfolding readMany spanMark
 many-read h a zero = passed (λ t. refl)
 many-read {k} h a (suc n) =
@@ -169,26 +169,26 @@ many-read {k} h a (suc n) =
     both-bind _ _ (many-read h (suc a) n) λ vs ws q.
     passed
     (λ t.
-    let e : v ≡ w = unmarked (or-left (cellMark (cells ℕ) k a) _ t) r in
-    let f : vs ≡ ws = q (or-right (cellMark (cells ℕ) k a) _ t) in
+    let e : v ≡ w = unmarked (or-left (cellMark markCells k a) _ t) r in
+    let f : vs ≡ ws = q (or-right (cellMark markCells k a) _ t) in
     cc)
 
 pub span-read : {k c d : Cells ℕ} → CellsRelated k c d → (a n : ℕ)
-    → Both (λ u v. spanMark (cells ℕ) k a n ≡ false → u ≡ v) (readSpan (cells ℕ) c a n) (readSpan (cells ℕ) d a n)
+    → Both (λ u v. spanMark markCells k a n ≡ false → u ≡ v) (readSpan numberCells c a n) (readSpan numberCells d a n)
 unfolding readSpan
 span-read h a n = both-require SpanPastRegion refl (both-require CellAbsent refl (many-read h a n))
 
 -- storing
 
 pub one-stored : {k c d : Cells ℕ} → CellsRelated k c d → (a : ℕ) (b : Bool) {v w : ℕ} → Related b v w
-    → Both (CellsRelated (put k a (bit b))) (storeOne (cells ℕ) c a v) (storeOne (cells ℕ) d a w)
+    → Both (CellsRelated (put k a (bit b))) (storeOne numberCells c a v) (storeOne numberCells d a w)
 unfolding storeMany
 one-stored h a b r =
     both-require StoreFault (related-storable r)
     (both-require StoreFault refl (both-require ProphetStore refl (passed (cells-put h a (bit b) (related-bit r)))))
 
 pub many-stored : {k c d : Cells ℕ} → CellsRelated k c d → (a : ℕ) (vs : List ℕ)
-    → Both (CellsRelated (cleanMany (cells ℕ) k a vs)) (storeMany (cells ℕ) c a vs) (storeMany (cells ℕ) d a vs)
+    → Both (CellsRelated (cleanMany markCells k a vs)) (storeMany numberCells c a vs) (storeMany numberCells d a vs)
 unfolding storeMany cleanMany
 many-stored h a [] = passed h
 many-stored h a (v ∷ vs) =

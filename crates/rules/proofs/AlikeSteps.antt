@@ -10,7 +10,7 @@ use Rattle.rules.specs.declared.Instruction.{Instruction}
 use Rattle.rules.specs.declared.Refusal.the-variants.{NotInField, NotSmall, AssertFailed, RangeCheckFailed, StoreFault, TapeFault}
 use Rattle.rules.specs.Numbers.{p, choose, bit}
 use Rattle.rules.specs.Field.{fieldAdd, fieldComplement}
-use Rattle.rules.specs.Cells.{Cells, put, cells}
+use Rattle.rules.specs.Cells.{Cells, put, numberCells, markCells}
 use Rattle.rules.specs.Opcodes.{Class, field, equality, small, complement, move, assert, rangeCheck, jump, conditionalJump, call, return, load, store, tapeLoad, tapeStore, contractCall, end, uncovered}
 use Rattle.rules.specs.Operands.{binaryLength, wantsOf, Operands, operands}
 use Rattle.rules.specs.Step.{Environment, State, Finish, r9, nextPc, readBelow, storeMany, storeOne, onTape, tapeValues, wraps, overlay, writesRegister, writesCells, writesTape, operate}
@@ -42,21 +42,21 @@ use Rattle.rules.proofs.AlikeStates.{
 }
 
 -- the marks of the operands as read
-abbrev mark0 : MarkState (cells ℕ) → Class → Instruction → Bool
+abbrev mark0 : MarkState markCells → Class → Instruction → Bool
 mark0 t c i = readMark (t .registers) (wantsOf c .op0) (i .op0)
 
-abbrev mark1 : MarkState (cells ℕ) → Class → Instruction → Bool
+abbrev mark1 : MarkState markCells → Class → Instruction → Bool
 mark1 t c i = readMark (t .registers) (wantsOf c .op1) (i .op1)
 
-abbrev markDst : MarkState (cells ℕ) → Class → Instruction → Bool
+abbrev markDst : MarkState markCells → Class → Instruction → Bool
 markDst t c i = readMark (t .registers) (wantsOf c .dst) (i .dst)
 
-pub record OperandsRelated (t : MarkState (cells ℕ)) (c : Class) (i : Instruction) (o q : Operands) : Type 0 where
+pub record OperandsRelated (t : MarkState markCells) (c : Class) (i : Instruction) (o q : Operands) : Type 0 where
   pub op0 : Related (mark0 t c i) (o .op0) (q .op0)
   pub op1 : Related (mark1 t c i) (o .op1) (q .op1)
   pub dst : Related (markDst t c i) (o .dst) (q .dst)
 
-pub operands-read : (psp : ℕ) (t : MarkState (cells ℕ)) (c : Class) (i : Instruction) {s u : State (cells ℕ)} → StatesRelated t s u
+pub operands-read : (psp : ℕ) (t : MarkState markCells) (c : Class) (i : Instruction) {s u : State numberCells} → StatesRelated t s u
     → Both (OperandsRelated t c i) (operands psp (s .registers) c i) (operands psp (u .registers) c i)
 unfolding operands
 operands-read psp t c i n =
@@ -66,20 +66,20 @@ operands-read psp t c i n =
     passed (record { op0 = h; op1 = k; dst = l })
 
 -- Two operations agree: the same sinks of what was read, the same marks, and the same refusal or states that are related where no sink is met
-pub record Agreed (e : Environment) (t : MarkState (cells ℕ)) (c : Class) (i : Instruction) (s u : State (cells ℕ)) (o q : Operands) : Type 0 where
-  pub sinks : readSink (cells ℕ) t c i s o ≡ readSink (cells ℕ) t c i u q
-  pub marks : marksAfter (cells ℕ) t c i s o ≡ marksAfter (cells ℕ) t c i u q
-  pub next : Both (λ a b. readSink (cells ℕ) t c i s o ≡ false → NextRelated (marksAfter (cells ℕ) t c i s o) a b)
-      (operate (cells ℕ) e c i s o)
-      (operate (cells ℕ) e c i u q)
+pub record Agreed (e : Environment) (t : MarkState markCells) (c : Class) (i : Instruction) (s u : State numberCells) (o q : Operands) : Type 0 where
+  pub sinks : readSink numberCells markCells t c i s o ≡ readSink numberCells markCells t c i u q
+  pub marks : marksAfter numberCells markCells t c i s o ≡ marksAfter numberCells markCells t c i u q
+  pub next : Both (λ a b. readSink numberCells markCells t c i s o ≡ false → NextRelated (marksAfter numberCells markCells t c i s o) a b)
+      (operate numberCells e c i s o)
+      (operate numberCells e c i u q)
 
 -- The states after a step
 
-next-pc : {t : MarkState (cells ℕ)} {s u : State (cells ℕ)} → StatesRelated t s u → (i : Instruction) → nextPc (cells ℕ) s i ≡ nextPc (cells ℕ) u i
+next-pc : {t : MarkState markCells} {s u : State numberCells} → StatesRelated t s u → (i : Instruction) → nextPc numberCells s i ≡ nextPc numberCells u i
 next-pc n i = ap (λ c. c + binaryLength i) (n .pc)
 
-register-written : {t : MarkState (cells ℕ)} {s u : State (cells ℕ)} → StatesRelated t s u → {a b : ℕ} → a ≡ b → (r : ℕ) {k : Bool} {v w : ℕ}
-    → Related k v w → NextRelated (marksRegister (cells ℕ) t r k) (writesRegister (cells ℕ) s a r v) (writesRegister (cells ℕ) u b r w)
+register-written : {t : MarkState markCells} {s u : State numberCells} → StatesRelated t s u → {a b : ℕ} → a ≡ b → (r : ℕ) {k : Bool} {v w : ℕ}
+    → Related k v w → NextRelated (marksRegister markCells t r k) (writesRegister numberCells s a r v) (writesRegister numberCells u b r w)
 register-written {t} n e r {k} h =
     record {
       state = record {
@@ -96,8 +96,8 @@ register-written {t} n e r {k} h =
       finish = refl;
     }
 
-cells-written : {t : MarkState (cells ℕ)} {s u : State (cells ℕ)} → StatesRelated t s u → {a b : ℕ} → a ≡ b → {k c d : Cells ℕ} → CellsRelated k c d
-    → NextRelated (record { registers = t .registers; cells = k }) (writesCells (cells ℕ) s a c) (writesCells (cells ℕ) u b d)
+cells-written : {t : MarkState markCells} {s u : State numberCells} → StatesRelated t s u → {a b : ℕ} → a ≡ b → {k c d : Cells ℕ} → CellsRelated k c d
+    → NextRelated (record { registers = t .registers; cells = k }) (writesCells numberCells s a c) (writesCells numberCells u b d)
 cells-written n e h =
     record {
       state = record {
@@ -114,9 +114,9 @@ cells-written n e h =
       finish = refl;
     }
 
-tape-written : {t : MarkState (cells ℕ)} {s u : State (cells ℕ)} → StatesRelated t s u → (i : Instruction) {a b c d v w : List ℕ} {f g : Finish}
+tape-written : {t : MarkState markCells} {s u : State numberCells} → StatesRelated t s u → (i : Instruction) {a b c d v w : List ℕ} {f g : Finish}
     → a ≡ b → c ≡ d → v ≡ w → f ≡ g → length c ≤ length v
-    → NextRelated t (writesTape (cells ℕ) s (nextPc (cells ℕ) s i) a c v f) (writesTape (cells ℕ) u (nextPc (cells ℕ) u i) b d w g)
+    → NextRelated t (writesTape numberCells s (nextPc numberCells s i) a c v f) (writesTape numberCells u (nextPc numberCells u i) b d w g)
 tape-written n i x y z f l =
     record {
       state = record {
@@ -148,8 +148,8 @@ overlay-longer a b = rw length-append (omega arith)
 
 -- Each class of opcodes
 
-module _ (e : Environment) (t : MarkState (cells ℕ)) (i : Instruction) {s u : State (cells ℕ)} (n : StatesRelated t s u) where
-  r9-equal : registerMark (t .registers) 9 ≡ false → r9 (cells ℕ) s ≡ r9 (cells ℕ) u
+module _ (e : Environment) (t : MarkState markCells) (i : Instruction) {s u : State numberCells} (n : StatesRelated t s u) where
+  r9-equal : registerMark (t .registers) 9 ≡ false → r9 numberCells s ≡ r9 numberCells u
   r9-equal k = unmarked k (registers-get (n .registers) 9)
 
   -- classes without sinks: marked operands go into the result
@@ -238,56 +238,56 @@ module _ (e : Environment) (t : MarkState (cells ℕ)) (i : Instruction) {s u : 
             passed λ k. cells-written n (go (eqb (o .op0) 1) (unmarked k r)) (n .cells));
       }
     where
-      go : (c : Bool) {a b : ℕ} → a ≡ b → choose c a (nextPc (cells ℕ) s i) ≡ choose c b (nextPc (cells ℕ) u i)
+      go : (c : Bool) {a b : ℕ} → a ≡ b → choose c a (nextPc numberCells s i) ≡ choose c b (nextPc numberCells u i)
       go true h = h
       go false h = next-pc n i
 
   pub on-call : (o : Operands) → registerMark (t .registers) 9 ≡ false → Agreed e t call i s u o o
   unfolding readSink marksAfter operate
   on-call o k =
-      let d : r9 (cells ℕ) s ≡ r9 (cells ℕ) u = r9-equal k in
+      let d : r9 numberCells s ≡ r9 numberCells u = r9-equal k in
       record {
         sinks = refl;
-        marks = ap (λ r. marksCell (cells ℕ) t (r - 1) false) d;
+        marks = ap (λ r. marksCell markCells t (r - 1) false) d;
         next = both-require StoreFault (ap (leb 1) d) (both-bind _ _ (stored d) λ a b r. passed λ _. cells-written n refl r);
       }
     where
-      stored : r9 (cells ℕ) s ≡ r9 (cells ℕ) u
-          → Both (CellsRelated (put (t .cells) (r9 (cells ℕ) s - 1) 0))
-          (storeOne (cells ℕ) (s .cells) (r9 (cells ℕ) s - 1) (nextPc (cells ℕ) s i))
-          (storeOne (cells ℕ) (u .cells) (r9 (cells ℕ) u - 1) (nextPc (cells ℕ) u i))
+      stored : r9 numberCells s ≡ r9 numberCells u
+          → Both (CellsRelated (put (t .cells) (r9 numberCells s - 1) 0))
+          (storeOne numberCells (s .cells) (r9 numberCells s - 1) (nextPc numberCells s i))
+          (storeOne numberCells (u .cells) (r9 numberCells u - 1) (nextPc numberCells u i))
       stored d =
           subst
-          (λ r. Both (CellsRelated (put (t .cells) (r9 (cells ℕ) s - 1) 0))
-          (storeOne (cells ℕ) (s .cells) (r9 (cells ℕ) s - 1) (nextPc (cells ℕ) s i))
-          (storeOne (cells ℕ) (u .cells) (r - 1) (nextPc (cells ℕ) u i)))
+          (λ r. Both (CellsRelated (put (t .cells) (r9 numberCells s - 1) 0))
+          (storeOne numberCells (s .cells) (r9 numberCells s - 1) (nextPc numberCells s i))
+          (storeOne numberCells (u .cells) (r - 1) (nextPc numberCells u i)))
           d
-          (one-stored (n .cells) (r9 (cells ℕ) s - 1) false (equal (next-pc n i)))
+          (one-stored (n .cells) (r9 numberCells s - 1) false (equal (next-pc n i)))
 
   pub on-return : (o : Operands) → registerMark (t .registers) 9 ≡ false → Agreed e t return i s u o o
   unfolding readSink marksAfter operate
   on-return o k =
-      let d : r9 (cells ℕ) s ≡ r9 (cells ℕ) u = r9-equal k in
+      let d : r9 numberCells s ≡ r9 numberCells u = r9-equal k in
       record {
-        sinks = ap (λ r. cellMark (cells ℕ) (t .cells) (r - 1)) d;
-        marks = ap (λ r. marksRegister (cells ℕ) t 9 (cellMark (cells ℕ) (t .cells) (r - 2))) d;
+        sinks = ap (λ r. cellMark markCells (t .cells) (r - 1)) d;
+        marks = ap (λ r. marksRegister markCells t 9 (cellMark markCells (t .cells) (r - 2))) d;
         next =
             both-bind _ _ (read 1 d) λ a b h.
             both-bind _ _ (read 2 d) λ v w l.
             passed λ q. register-written n (unmarked q h) 9 l;
       }
     where
-      read : (k : ℕ) → r9 (cells ℕ) s ≡ r9 (cells ℕ) u
-          → Both (Related (cellMark (cells ℕ) (t .cells) (r9 (cells ℕ) s - k)))
-          (readBelow (cells ℕ) (s .cells) (r9 (cells ℕ) s) k)
-          (readBelow (cells ℕ) (u .cells) (r9 (cells ℕ) u) k)
+      read : (k : ℕ) → r9 numberCells s ≡ r9 numberCells u
+          → Both (Related (cellMark markCells (t .cells) (r9 numberCells s - k)))
+          (readBelow numberCells (s .cells) (r9 numberCells s) k)
+          (readBelow numberCells (u .cells) (r9 numberCells u) k)
       read k d =
           subst
-          (λ r. Both (Related (cellMark (cells ℕ) (t .cells) (r9 (cells ℕ) s - k)))
-          (readBelow (cells ℕ) (s .cells) (r9 (cells ℕ) s) k)
-          (readBelow (cells ℕ) (u .cells) r k))
+          (λ r. Both (Related (cellMark markCells (t .cells) (r9 numberCells s - k)))
+          (readBelow numberCells (s .cells) (r9 numberCells s) k)
+          (readBelow numberCells (u .cells) r k))
           d
-          (below-read (n .cells) (r9 (cells ℕ) s) k)
+          (below-read (n .cells) (r9 numberCells s) k)
 
   pub on-load : (o : Operands) → Agreed e t load i s u o o
   unfolding readSink marksAfter operate
@@ -321,7 +321,7 @@ module _ (e : Environment) (t : MarkState (cells ℕ)) (i : Instruction) {s u : 
   on-tape-load o =
       record {
         sinks = refl;
-        marks = ap (λ x. record { registers = t .registers; cells = cleanMany (cells ℕ) (t .cells) (o .dst) (tapeValues (o .op0) (o .op1) x) }) (n .tape);
+        marks = ap (λ x. record { registers = t .registers; cells = cleanMany markCells (t .cells) (o .dst) (tapeValues (o .op0) (o .op1) x) }) (n .tape);
         next =
             both-require TapeFault (ap (onTape (o .op0) (o .op1)) (n .tape))
             (both-require StoreFault (ap (λ x. not (wraps (o .dst) (tapeValues (o .op0) (o .op1) x))) (n .tape))
@@ -331,14 +331,14 @@ module _ (e : Environment) (t : MarkState (cells ℕ)) (i : Instruction) {s u : 
       vs : List ℕ → List ℕ
       vs x = tapeValues (o .op0) (o .op1) x
 
-      stored : Both (CellsRelated (cleanMany (cells ℕ) (t .cells) (o .dst) (vs (s .tape))))
-          (storeMany (cells ℕ) (s .cells) (o .dst) (vs (s .tape)))
-          (storeMany (cells ℕ) (u .cells) (o .dst) (vs (u .tape)))
+      stored : Both (CellsRelated (cleanMany markCells (t .cells) (o .dst) (vs (s .tape))))
+          (storeMany numberCells (s .cells) (o .dst) (vs (s .tape)))
+          (storeMany numberCells (u .cells) (o .dst) (vs (u .tape)))
       stored =
           subst
-          (λ x. Both (CellsRelated (cleanMany (cells ℕ) (t .cells) (o .dst) (vs (s .tape))))
-          (storeMany (cells ℕ) (s .cells) (o .dst) (vs (s .tape)))
-          (storeMany (cells ℕ) (u .cells) (o .dst) (vs x)))
+          (λ x. Both (CellsRelated (cleanMany markCells (t .cells) (o .dst) (vs (s .tape))))
+          (storeMany numberCells (s .cells) (o .dst) (vs (s .tape)))
+          (storeMany numberCells (u .cells) (o .dst) (vs x)))
           (n .tape)
           (many-stored (n .cells) (o .dst) (vs (s .tape)))
 

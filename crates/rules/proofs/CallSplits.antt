@@ -11,7 +11,7 @@ use Rattle.rules.specs.declared.Refusal.the-variants.{BadState}
 use Rattle.rules.specs.declared.Answer.the-variants.{Paused}
 use Rattle.rules.specs.Numbers.{clockEnd, choose}
 use Rattle.rules.specs.Results.{Result, refuse, pass}
-use Rattle.rules.specs.Cells.{Cells, count, addresses, contents, cells}
+use Rattle.rules.specs.Cells.{Cells, count, addresses, contents, numberCells, markCells}
 use Rattle.rules.specs.Step.{Environment, State, Ran, overlay, run}
 use Rattle.rules.specs.Guarded.{GuardedState, guardedRun}
 use Rattle.rules.specs.Answers.{outcome, meaning}
@@ -40,7 +40,7 @@ covered : {A : Type 0} (f : Cells ℕ → List A) → ((c : Cells ℕ) → lengt
     → overlay (f d) (overlay (f c) l) ≡ overlay (f d) l
 covered f n c d l h = overlay-covers (f d) (f c) l (omega (arith, n c, n d))
 
-snapshot-twice : (s : Snapshot) (t u : State (cells ℕ)) (v : List ℕ) → Grown t u → u .written ≡ overlay v (t .written)
+snapshot-twice : (s : Snapshot) (t u : State numberCells) (v : List ℕ) → Grown t u → u .written ≡ overlay v (t .written)
     → snapshotAfter (snapshotAfter s t) (withWritten u v) ≡ snapshotAfter s u
 snapshot-twice s t u v g h =
     λ i.
@@ -52,11 +52,11 @@ snapshot-twice s t u v g h =
       output = (overlay-overlay v (t .written) (s .output) ∙ ap (λ l. overlay l (s .output)) (sym h)) i;
     }
 
-left-twice : (s : Snapshot) {t u x : State (cells ℕ)} → Grown t u → Behind (t .written) u x → snapshotAfter s u ≡ snapshotAfter (snapshotAfter s t) x
+left-twice : (s : Snapshot) {t u x : State numberCells} → Grown t u → Behind (t .written) u x → snapshotAfter s u ≡ snapshotAfter (snapshotAfter s t) x
 left-twice s {t} g (behind {s = u} v h) = sym (snapshot-twice s t u v g h)
 
 -- a state and the same as the next call sees it
-resumed-behind : {e : Environment} (t : State (cells ℕ)) → Sound e t → Behind (t .written) t (resumed t)
+resumed-behind : {e : Environment} (t : State numberCells) → Sound e t → Behind (t .written) t (resumed t)
 resumed-behind t h = behind (t .output) (sym (overlay-same (t .output) (t .written) (h .first)))
 
 -- The plain call
@@ -70,7 +70,7 @@ module _ (program : List Instruction) (s : Snapshot) (ten : length (s .machine .
   abbrev here : Environment
   here = environment program s
 
-  abbrev first : Ran (State (cells ℕ))
+  abbrev first : Ran (State numberCells)
   first = plainRunOf program m s
 
   sound : Sound here (first .state)
@@ -84,27 +84,27 @@ module _ (program : List Instruction) (s : Snapshot) (ten : length (s .machine .
   clock = ltb-true _ _ (all-at _ passes 0)
 
   enters : plainEntry (snapshotAfter s (first .state)) ≡ true
-  enters = again .entry (run-goes-on (cells ℕ) here m (stateOf s) clock paused)
+  enters = again .entry (run-goes-on numberCells markCells here m (stateOf s) clock paused)
 
-  second : plainRunOf program n (snapshotAfter s (first .state)) ≡ run (cells ℕ) here n (resumed (first .state))
-  second = λ i. run (cells ℕ) (again .environment i) n (again .state i)
+  second : plainRunOf program n (snapshotAfter s (first .state)) ≡ run numberCells here n (resumed (first .state))
+  second = λ i. run numberCells (again .environment i) n (again .state i)
 
-  joined-answers : (r q : Ran (State (cells ℕ))) → Grown (first .state) (r .state) → BothRan (Behind (first .state .written)) r q
+  joined-answers : (r q : Ran (State numberCells)) → Grown (first .state) (r .state) → BothRan (Behind (first .state .written)) r q
       → plainAnswered s (joined first r) ≡ afterSteps (first .steps) (plainAnswered (snapshotAfter s (first .state)) q)
   joined-answers r q g b =
       λ i. record { answer = meaning (b .answer i); steps = first .steps + b .steps i; left = left-twice s g (b .state) i }
 
   plain-split : plainAnswered s (plainRunOf program (m + n) s) ≡ afterSteps (first .steps) (plainCall (pass program) n (snapshotAfter s (first .state)))
   plain-split =
-      ap (plainAnswered s) (run-splits (cells ℕ) here m n (stateOf s) paused)
-      ∙ joined-answers (run (cells ℕ) here n (first .state)) (run (cells ℕ) here n (resumed (first .state))) (run-grows here n (first .state) sound)
+      ap (plainAnswered s) (run-splits numberCells markCells here m n (stateOf s) paused)
+      ∙ joined-answers (run numberCells here n (first .state)) (run numberCells here n (resumed (first .state))) (run-grows here n (first .state) sound)
       (run-behind (first .state .written) here n (first .state) (resumed (first .state)) (resumed-behind (first .state) sound))
       ∙ ap (λ r. afterSteps (first .steps) (plainAnswered (snapshotAfter s (first .state)) r)) (sym second)
       ∙ ap (afterSteps (first .steps)) (sym (plain-passes program (snapshotAfter s (first .state)) n enters))
 
 -- The guarded call
 
-guarded-twice : (g : GuardedSnapshot) (q : GuardedState (cells ℕ)) {r x : GuardedState (cells ℕ)} → Grown (q .plain) (r .plain) → count (q .marks .cells) ≤ count (r .marks .cells)
+guarded-twice : (g : GuardedSnapshot) (q : GuardedState numberCells markCells) {r x : GuardedState numberCells markCells} → Grown (q .plain) (r .plain) → count (q .marks .cells) ≤ count (r .marks .cells)
     → GuardedBehind (q .plain .written) r x → guardedSnapshotAfter g r ≡ guardedSnapshotAfter (guardedSnapshotAfter g q) x
 guarded-twice g q h l (guarded-behind {u = u} b) =
     λ i.
@@ -120,14 +120,14 @@ unfolding guardedCall
 guarded-passes program g n h = ap (λ b. choose b (guardedAnswered g (guardedRunOf program n g)) (refusedCall BadState g)) h
 
 -- as many marks as cells
-mark-count : {e : Environment} {q : GuardedState (cells ℕ)} → GuardedSound e q → count (q .marks .cells) ≡ count (q .plain .cells)
+mark-count : {e : Environment} {q : GuardedState numberCells markCells} → GuardedSound e q → count (q .marks .cells) ≡ count (q .plain .cells)
 mark-count {q = q} h = sym (length-addresses (q .marks .cells)) ∙ ap length (h .addresses) ∙ length-addresses (q .plain .cells)
 
 module _ (program : List Instruction) (g : GuardedSnapshot) (ten : length (g .plain .machine .registers) ≡ 10) (passes : guardedEntry g ≡ true) (m n : ℕ) (paused : guardedRunOf program m g .answer ≡ Paused) where
   abbrev there : Environment
   there = environment program (g .plain)
 
-  abbrev guarded-first : Ran (GuardedState (cells ℕ))
+  abbrev guarded-first : Ran (GuardedState numberCells markCells)
   guarded-first = guardedRunOf program m g
 
   guarded-sound : GuardedSound there (guarded-first .state)
@@ -141,22 +141,22 @@ module _ (program : List Instruction) (g : GuardedSnapshot) (ten : length (g .pl
   guarded-clock = ltb-true _ _ (all-at _ (all-at _ passes 0) 0)
 
   guarded-enters : guardedEntry (guardedSnapshotAfter g (guarded-first .state)) ≡ true
-  guarded-enters = guarded-again .entry (guarded-run-goes-on (cells ℕ) there m (guardedStateOf g) guarded-clock paused)
+  guarded-enters = guarded-again .entry (guarded-run-goes-on numberCells markCells there m (guardedStateOf g) guarded-clock paused)
 
-  guarded-second : guardedRunOf program n (guardedSnapshotAfter g (guarded-first .state)) ≡ guardedRun (cells ℕ) there n (guardedResumed (guarded-first .state))
-  guarded-second = λ i. guardedRun (cells ℕ) (guarded-again .plain .environment i) n (guarded-again .state i)
+  guarded-second : guardedRunOf program n (guardedSnapshotAfter g (guarded-first .state)) ≡ guardedRun numberCells markCells there n (guardedResumed (guarded-first .state))
+  guarded-second = λ i. guardedRun numberCells markCells (guarded-again .plain .environment i) n (guarded-again .state i)
 
-  guarded-joined : (r q : Ran (GuardedState (cells ℕ))) → Grown (guarded-first .state .plain) (r .state .plain)
+  guarded-joined : (r q : Ran (GuardedState numberCells markCells)) → Grown (guarded-first .state .plain) (r .state .plain)
       → count (guarded-first .state .marks .cells) ≤ count (r .state .marks .cells)
       → BothRan (GuardedBehind (guarded-first .state .plain .written)) r q
       → guardedAnswered g (joined guarded-first r) ≡ afterSteps (guarded-first .steps) (guardedAnswered (guardedSnapshotAfter g (guarded-first .state)) q)
   guarded-joined r q h l b =
       λ i. record { answer = meaning (b .answer i); steps = guarded-first .steps + b .steps i; left = guarded-twice g (guarded-first .state) h l (b .state) i }
 
-  guarded-grown : Grown (guarded-first .state .plain) (guardedRun (cells ℕ) there n (guarded-first .state) .state .plain)
+  guarded-grown : Grown (guarded-first .state .plain) (guardedRun numberCells markCells there n (guarded-first .state) .state .plain)
   guarded-grown = guarded-run-grows there n (guarded-first .state) (guarded-sound .plain)
 
-  marks-grown : count (guarded-first .state .marks .cells) ≤ count (guardedRun (cells ℕ) there n (guarded-first .state) .state .marks .cells)
+  marks-grown : count (guarded-first .state .marks .cells) ≤ count (guardedRun numberCells markCells there n (guarded-first .state) .state .marks .cells)
   marks-grown =
       let a = guarded-grown .cells in
       omega (arith, mark-count guarded-sound, mark-count (guarded-run-sound there n (guarded-first .state) guarded-sound))
@@ -164,8 +164,8 @@ module _ (program : List Instruction) (g : GuardedSnapshot) (ten : length (g .pl
   guarded-split : guardedAnswered g (guardedRunOf program (m + n) g)
       ≡ afterSteps (guarded-first .steps) (guardedCall (pass program) n (guardedSnapshotAfter g (guarded-first .state)))
   guarded-split =
-      ap (guardedAnswered g) (guarded-run-splits (cells ℕ) there m n (guardedStateOf g) paused)
-      ∙ guarded-joined (guardedRun (cells ℕ) there n (guarded-first .state)) (guardedRun (cells ℕ) there n (guardedResumed (guarded-first .state)))
+      ap (guardedAnswered g) (guarded-run-splits numberCells markCells there m n (guardedStateOf g) paused)
+      ∙ guarded-joined (guardedRun numberCells markCells there n (guarded-first .state)) (guardedRun numberCells markCells there n (guardedResumed (guarded-first .state)))
       guarded-grown
       marks-grown
       (guarded-run-behind (guarded-first .state .plain .written) there n (guarded-first .state) (guardedResumed (guarded-first .state))

@@ -10,7 +10,7 @@ use Rattle.rules.specs.declared.OlaOperand.{OlaOperand}
 use Rattle.rules.specs.declared.Instruction.{Instruction}
 use Rattle.rules.specs.Numbers.{choose}
 use Rattle.rules.specs.Memory.{present}
-use Rattle.rules.specs.Cells.{get, zipped, cells}
+use Rattle.rules.specs.Cells.{get, zipped, numberCells, markCells}
 use Rattle.rules.specs.Operands.{Operands}
 use Rattle.rules.specs.Step.{Environment, State}
 use Rattle.rules.specs.Guarded.{slotMark}
@@ -73,7 +73,7 @@ clean-operand h of-register = h _
 clean-operand h of-offset = h _
 clean-operand h of-factor = h _
 
-clean-after : {t : Marking} → Clean t → {i : Instruction} {s : State (cells ℕ)} {o : Operands} {c : OlaOpcode} {x : Place} {b : Bool}
+clean-after : {t : Marking} → Clean t → {i : Instruction} {s : State numberCells} {o : Operands} {c : OlaOpcode} {x : Place} {b : Bool}
     → MarkedAfter t i s o c x b → b ≡ false
 clean-after h (result-of-both {a = a} {b} f p q) = ap (λ z. z || b) (clean-operand h p) ∙ clean-operand h q
 clean-after h (result-of-one f q) = clean-operand h q
@@ -84,7 +84,7 @@ clean-after h (tape-value w) = refl
 clean-after h return-pc = refl
 clean-after h (kept w) = h _
 
-clean-comes : {e : Environment} {s s′ : State (cells ℕ)} {t t′ : Marking} {k : ℕ} → Comes e s t k s′ t′ → Clean t → Clean t′
+clean-comes : {e : Environment} {s s′ : State numberCells} {t t′ : Marking} {k : ℕ} → Comes e s t k s′ t′ → Clean t → Clean t′
 clean-comes start h = h
 clean-comes (onward a r) h = clean-comes r (λ x. clean-after h (a .marks x))
 
@@ -106,13 +106,13 @@ no-operand-use h (tape-op0 f p) = no-operand h p
 no-operand-use h (tape-op1 f p) = no-operand h p
 no-operand-use h (tload-dst p) = no-operand h p
 
-no-read-use : {t : Marking} → Clean t → {i : Instruction} {e : Environment} {s : State (cells ℕ)} {o : Operands} {c : OlaOpcode} → ReadUse t i e s o c → ⊥
+no-read-use : {t : Marking} → Clean t → {i : Instruction} {e : Environment} {s : State numberCells} {o : Operands} {c : OlaOpcode} → ReadUse t i e s o c → ⊥
 no-read-use h (cjmp-op1 l v p) = no-operand h p
 no-read-use h (tstore-cell v a l u e) = no-place h (cell a) e
 no-read-use h (sccall-cell v a l u e) = no-place h (cell a) e
 no-read-use h (ret-pc v w e) = no-place h _ e
 
-pub clean-reaches : {e : Environment} {s s′ : State (cells ℕ)} {t t′ : Marking} {k : ℕ} → Comes e s t k s′ t′ → Clean t → ReachesUse e s′ t′ → ⊥
+pub clean-reaches : {e : Environment} {s s′ : State numberCells} {t t′ : Marking} {k : ℕ} → Comes e s t k s′ t′ → Clean t → ReachesUse e s′ t′ → ⊥
 clean-reaches r h (operand f u) = no-operand-use (clean-comes r h) u
 clean-reaches r h (reading f n u) = no-read-use (clean-comes r h) u
 
@@ -122,12 +122,12 @@ not-marked : (b : Bool) → (b ≡ true → ⊥) → b ≡ false
 not-marked true h = absurd (h refl)
 not-marked false h = refl
 
-clean-cells : (l ts : List ℕ) → ((i : ℕ) → getD (map (λ t. eqb t 1) ts) i false ≡ true → ⊥) → (a : ℕ) → slotMark (cells ℕ) (get (zipped l ts) a) ≡ false
+clean-cells : (l ts : List ℕ) → ((i : ℕ) → getD (map (λ t. eqb t 1) ts) i false ≡ true → ⊥) → (a : ℕ) → slotMark markCells (get (zipped l ts) a) ≡ false
 clean-cells [] ts h a = refl
 clean-cells (b ∷ l) [] h a = refl
 clean-cells (b ∷ l) (t ∷ ts) h a = go (clean-cells l ts (λ i. h (ℕ.suc i)) a) (eqb b a)
   where
-    go : slotMark (cells ℕ) (get (zipped l ts) a) ≡ false → (c : Bool) → slotMark (cells ℕ) (choose c (present t) (get (zipped l ts) a)) ≡ false
+    go : slotMark markCells (get (zipped l ts) a) ≡ false → (c : Bool) → slotMark markCells (choose c (present t) (get (zipped l ts) a)) ≡ false
     go k true = not-marked (eqb t 1) (h 0)
     go k false = k
 

@@ -16,7 +16,7 @@ use Rattle.rules.specs.Results.{Result, refuse, pass, require}
 use Rattle.rules.specs.Frames.{valueCount, frameOf, onFrame, framesAfter, isMalformed, anyOf, earliestMalformed, countFits, instructions, loadFrames, loadWords}
 use Rattle.rules.specs.Text.{Line, Job, lineFeed, linesOf, frameOfLine, loadText, loadJob, loadBudgetText}
 use Rattle.rules.specs.Answers.{refusal, refusalMeaning}
-use Rattle.rules.specs.Cells.{cells}
+use Rattle.rules.specs.Cells.{numberCells, markCells}
 use Rattle.rules.specs.Entry.{Snapshot, GuardedSnapshot, plainEntry, guardedEntry, environment, stateOf, guardedStateOf}
 use Rattle.rules.specs.Calls.{Called, refusedCall, jobProgram, jobBudget, plainCall, plainWords, plainText, plainBudgetText, guardedCall, guardedWords, guardedText, guardedBudgetText}
 use Rattle.rules.specs.Solve.{decimal, zeroFields, spaced, carriedFields, printed, solveStart, solve}
@@ -183,14 +183,14 @@ plain-carries : (f : Numbered) (loaded : Result (List Instruction)) → LoadsEar
 unfolding plainCall
 plain-carries f (refuse g) h budget s = as-loaded f s g h
 plain-carries f (pass program) h budget s =
-    entered f s _ h (unfit-or-run (plainEntry s) _ s (run-past (cells ℕ) (environment program s) budget (stateOf s)))
+    entered f s _ h (unfit-or-run (plainEntry s) _ s (run-past numberCells markCells (environment program s) budget (stateOf s)))
 
 guarded-carries : (f : Numbered) (loaded : Result (List Instruction)) → LoadsEarliest f loaded → (budget : ℕ) (g : GuardedSnapshot)
     → CarriesEarliest f g (guardedCall loaded budget g)
 unfolding guardedCall
 guarded-carries f (refuse r) h budget g = as-loaded f g r h
 guarded-carries f (pass program) h budget g =
-    entered f g _ h (unfit-or-run (guardedEntry g) _ g (guarded-run-past (cells ℕ) (environment program (g .plain)) budget (guardedStateOf g)))
+    entered f g _ h (unfit-or-run (guardedEntry g) _ g (guarded-run-past numberCells markCells (environment program (g .plain)) budget (guardedStateOf g)))
 
 budget-text-carries : (text : List ℕ) (s : Snapshot) → CarriesEarliest (numberedBudgetText text) s (plainBudgetText text s)
 unfolding plainBudgetText

@@ -11,7 +11,7 @@ use borrow.Author.Tests.{ltb-true, leb-true, eqb-true}
 use Rattle.rules.specs.declared.Instruction.{Instruction}
 use Rattle.rules.specs.Numbers.{p, heapEnd, choose}
 use Rattle.rules.specs.Memory.{present}
-use Rattle.rules.specs.Cells.{get, count, addresses, zipped, cells}
+use Rattle.rules.specs.Cells.{get, count, addresses, zipped, markCells}
 use Rattle.rules.specs.Step.{isStorable}
 use Rattle.rules.specs.Guarded.{slotMark, cellMark}
 use Rattle.rules.specs.Entry.{Snapshot, GuardedSnapshot, usedAddresses, usedNumbers, usedMarks, usedOutput, markedRegisters, every, risingFrom, markedBelow, plainEntry, markedNumbersBelow, marksEntry, guardedEntry, environment, stateOf, guardedStateOf}
@@ -45,15 +45,15 @@ zipped-every f (b ∷ l) (w ∷ vs) t a v e = go (zipped-every f l vs (and-right
     go k false e = k e
 
 zipped-below : (l ts ns : List ℕ) → markedBelow (map (λ t. eqb t 1) ts) ns ≡ true
-    → (a v : ℕ) → cellMark (cells ℕ) (zipped l ts) a ≡ true → get (zipped l ns) a ≡ present v → v < p
+    → (a v : ℕ) → cellMark markCells (zipped l ts) a ≡ true → get (zipped l ns) a ≡ present v → v < p
 zipped-below [] ts ns h a v t e = absurd (false-true t)
 zipped-below (b ∷ l) [] ns h a v t e = absurd (false-true t)
 zipped-below (b ∷ l) (u ∷ ts) [] h a v t e = absurd (absent-present v e)
 zipped-below (b ∷ l) (u ∷ ts) (n ∷ ns) h a v t e =
     go (zipped-below l ts ns (and-right (not (eqb u 1) || ltb n p) _ h) a v) (eqb b a) t e
   where
-    go : (cellMark (cells ℕ) (zipped l ts) a ≡ true → get (zipped l ns) a ≡ present v → v < p) → (c : Bool)
-        → slotMark (cells ℕ) (choose c (present u) (get (zipped l ts) a)) ≡ true → choose c (present n) (get (zipped l ns) a) ≡ present v → v < p
+    go : (cellMark markCells (zipped l ts) a ≡ true → get (zipped l ns) a ≡ present v → v < p) → (c : Bool)
+        → slotMark markCells (choose c (present u) (get (zipped l ts) a)) ≡ true → choose c (present n) (get (zipped l ns) a) ≡ present v → v < p
     go k true t e =
         let z : n ≡ v = cc in
         subst (λ x. x < p) z (markedBelow-at (map (λ t. eqb t 1) (u ∷ ts)) (n ∷ ns) h 0 t)

@@ -22,104 +22,104 @@ paused-not-sink e = let z : _≡_ {A = ℕ} 0 1 = cc in omega arith
 refused-not-sink : (f : Refusal) → Refused f ≡ MarkedSink → ⊥
 refused-not-sink f e = let z : _≡_ {A = ℕ} 0 1 = cc in omega arith
 
-module _ (memory : Memory ℕ) where
+module _ (numberMemory markMemory : Memory ℕ) where
   -- One step: the marked one stops at a sink, or does what the plain one does
-  pub data Beside : GuardedResult (GuardedNext memory) → Result (Next memory) → Type 0 where
-    at-sink : {r : Result (Next memory)} → Beside sink r
+  pub data Beside : GuardedResult (GuardedNext numberMemory markMemory) → Result (Next numberMemory) → Type 0 where
+    at-sink : {r : Result (Next numberMemory)} → Beside sink r
     beside-refused : {f : Refusal} → Beside (refuses f) (refuse f)
-    passed : {n : GuardedNext memory} → Beside (passes n) (pass (n .next))
+    passed : {n : GuardedNext numberMemory markMemory} → Beside (passes n) (pass (n .next))
 
-  beside-after : {A : Type 0} (r : Result A) (k : A → GuardedResult (GuardedNext memory)) (l : A → Result (Next memory)) → ((a : A) → Beside (k a) (l a))
+  beside-after : {A : Type 0} (r : Result A) (k : A → GuardedResult (GuardedNext numberMemory markMemory)) (l : A → Result (Next numberMemory)) → ((a : A) → Beside (k a) (l a))
       → Beside (after r k) (bind r l)
   unfolding after bind
   beside-after (refuse f) k l h = beside-refused
   beside-after (pass a) k l h = h a
 
-  beside-guard : (b : Bool) {x : GuardedResult (GuardedNext memory)} {y : Result (Next memory)} → Beside x y → Beside (guard b x) y
+  beside-guard : (b : Bool) {x : GuardedResult (GuardedNext numberMemory markMemory)} {y : Result (Next numberMemory)} → Beside x y → Beside (guard b x) y
   unfolding guard
   beside-guard true h = at-sink
   beside-guard false h = h
 
-  beside-capacity : (b : Bool) (n : Next memory) (t : MarkState memory)
+  beside-capacity : (b : Bool) (n : Next numberMemory) (t : MarkState markMemory)
       → Beside (after (require b NoCapacity (pass n)) (λ n. passes (record { next = n; marks = t }))) (require b NoCapacity (pass n))
   unfolding after require
   beside-capacity true n t = passed
   beside-capacity false n t = beside-refused
 
-  pub step-beside : (e : Environment) (q : GuardedState memory) → Beside (guardedStep memory e q) (step memory e (q .plain))
+  pub step-beside : (e : Environment) (q : GuardedState numberMemory markMemory) → Beside (guardedStep numberMemory markMemory e q) (step numberMemory e (q .plain))
   unfolding guardedStep guardedRest step
   step-beside e q =
       beside-after (fetch (e .program) (q .plain .pc)) _ _ λ i.
       beside-after (operands (e .psp) (q .plain .registers) (classOf (i .opcode)) i) _ _ λ o.
       beside-guard (operandSink (q .marks .registers) (classOf (i .opcode)) i)
-      (beside-after (operate memory e (classOf (i .opcode)) i (q .plain) o) _ _ λ n.
-      beside-guard (readSink memory (q .marks) (classOf (i .opcode)) i (q .plain) o)
-      (beside-capacity (fits memory e (n .state)) n (marksAfter memory (q .marks) (classOf (i .opcode)) i (q .plain) o)))
+      (beside-after (operate numberMemory e (classOf (i .opcode)) i (q .plain) o) _ _ λ n.
+      beside-guard (readSink numberMemory markMemory (q .marks) (classOf (i .opcode)) i (q .plain) o)
+      (beside-capacity (fits numberMemory e (n .state)) n (marksAfter numberMemory markMemory (q .marks) (classOf (i .opcode)) i (q .plain) o)))
 
   -- Runs
 
-  abbrev pub plainPart : Ran (GuardedState memory) → Ran (State memory)
+  abbrev pub plainPart : Ran (GuardedState numberMemory markMemory) → Ran (State numberMemory)
   plainPart r = record { answer = r .answer; steps = r .steps; state = r .state .plain }
 
-  abbrev pub paused : ℕ → State memory → Ran (State memory)
+  abbrev pub paused : ℕ → State numberMemory → Ran (State numberMemory)
   paused k s = record { answer = Paused; steps = k; state = s }
 
   -- of a guarded run with a budget n, the plain run with that budget, and the plain run with any budget
-  pub record RunBeside (n : ℕ) (r : Ran (GuardedState memory)) (whole : Ran (State memory)) (cut : ℕ → Ran (State memory)) : Type 0 where
+  pub record RunBeside (n : ℕ) (r : Ran (GuardedState numberMemory markMemory)) (whole : Ran (State numberMemory)) (cut : ℕ → Ran (State numberMemory)) : Type 0 where
     pub transparent : (r .answer ≡ MarkedSink → ⊥) → plainPart r ≡ whole
     pub early : r .answer ≡ MarkedSink → (r .steps < n) × (cut (r .steps) ≡ paused (r .steps) (r .state .plain))
 
   -- where the answer is none of 18
-  same-run : (n : ℕ) {r : Ran (GuardedState memory)} (cut : ℕ → Ran (State memory)) → (r .answer ≡ MarkedSink → ⊥) → RunBeside n r (plainPart r) cut
+  same-run : (n : ℕ) {r : Ran (GuardedState numberMemory markMemory)} (cut : ℕ → Ran (State numberMemory)) → (r .answer ≡ MarkedSink → ⊥) → RunBeside n r (plainPart r) cut
   same-run n cut h = record { transparent = λ _. refl; early = λ a. absurd (h a) }
 
   -- the plain run with budget k, its first step decided
-  abbrev cutAt : Environment → State memory → Result (Next memory) → ℕ → Ran (State memory)
+  abbrev cutAt : Environment → State numberMemory → Result (Next numberMemory) → ℕ → Ran (State numberMemory)
   cutAt e s y zero = paused zero s
-  cutAt e s y (suc k) = onStep memory s y (run memory e k)
+  cutAt e s y (suc k) = onStep numberMemory s y (run numberMemory e k)
 
-  cut-run : (e : Environment) (s : State memory) (k : ℕ) → run memory e k s ≡ cutAt e s (step memory e s) k
+  cut-run : (e : Environment) (s : State numberMemory) (k : ℕ) → run numberMemory e k s ≡ cutAt e s (step numberMemory e s) k
   unfolding run
   cut-run e s zero = refl
   cut-run e s (suc k) = refl
 
-  clock-case : (e : Environment) (n : ℕ) (q : GuardedState memory) (b : Bool) (cut : ℕ → Ran (State memory))
-      → ((k : ℕ) → cut (suc k) ≡ onClock b (q .plain) (run memory e k (q .plain)))
-      → RunBeside n (guardedRun memory e n q) (run memory e n (q .plain)) (λ k. run memory e k (q .plain))
-      → RunBeside (suc n) (onClock b q (guardedRun memory e n q)) (onClock b (q .plain) (run memory e n (q .plain))) cut
+  clock-case : (e : Environment) (n : ℕ) (q : GuardedState numberMemory markMemory) (b : Bool) (cut : ℕ → Ran (State numberMemory))
+      → ((k : ℕ) → cut (suc k) ≡ onClock b (q .plain) (run numberMemory e k (q .plain)))
+      → RunBeside n (guardedRun numberMemory markMemory e n q) (run numberMemory e n (q .plain)) (λ k. run numberMemory e k (q .plain))
+      → RunBeside (suc n) (onClock b q (guardedRun numberMemory markMemory e n q)) (onClock b (q .plain) (run numberMemory e n (q .plain))) cut
   clock-case e n q true cut c h =
       record {
         transparent = λ a. ap afterStep (h .transparent a);
-        early = λ a. (let l : guardedRun memory e n q .steps < n = h .early a .0 in omega arith, c _ ∙ ap afterStep (h .early a .1));
+        early = λ a. (let l : guardedRun numberMemory markMemory e n q .steps < n = h .early a .0 in omega arith, c _ ∙ ap afterStep (h .early a .1));
       }
   clock-case e n q false cut c h = same-run (suc n) cut (refused-not-sink ClockEnd)
 
-  finish-case : (e : Environment) (s : State memory) (n : ℕ) (q : GuardedState memory) (f : Finish)
-      → RunBeside n (guardedRun memory e n q) (run memory e n (q .plain)) (λ k. run memory e k (q .plain))
+  finish-case : (e : Environment) (s : State numberMemory) (n : ℕ) (q : GuardedState numberMemory markMemory) (f : Finish)
+      → RunBeside n (guardedRun numberMemory markMemory e n q) (run numberMemory e n (q .plain)) (λ k. run numberMemory e k (q .plain))
       → RunBeside (suc n)
-      (onFinish f (q .plain .clk) q (guardedRun memory e n))
-      (onFinish f (q .plain .clk) (q .plain) (run memory e n))
+      (onFinish f (q .plain .clk) q (guardedRun numberMemory markMemory e n))
+      (onFinish f (q .plain .clk) (q .plain) (run numberMemory e n))
       (cutAt e s (pass (record { state = q .plain; finish = f })))
   finish-case e s n q goesOn h = clock-case e n q (ltb (q .plain .clk) clockEnd) _ (λ k. refl) h
   finish-case e s n q ends h = same-run (suc n) _ (λ a. let z : _≡_ {A = ℕ} 0 1 = cc in omega arith)
   finish-case e s n q (calls vs) h = same-run (suc n) _ (λ a. let z : _≡_ {A = ℕ} 0 1 = cc in omega arith)
   finish-case e s n q (delegates vs) h = same-run (suc n) _ (λ a. let z : _≡_ {A = ℕ} 0 1 = cc in omega arith)
 
-  step-case : (e : Environment) (n : ℕ) (q : GuardedState memory) (x : GuardedResult (GuardedNext memory)) (y : Result (Next memory)) → Beside x y
-      → ((r : GuardedState memory) → RunBeside n (guardedRun memory e n r) (run memory e n (r .plain)) (λ k. run memory e k (r .plain)))
-      → RunBeside (suc n) (onGuardedStep memory q x (guardedRun memory e n)) (onStep memory (q .plain) y (run memory e n)) (cutAt e (q .plain) y)
+  step-case : (e : Environment) (n : ℕ) (q : GuardedState numberMemory markMemory) (x : GuardedResult (GuardedNext numberMemory markMemory)) (y : Result (Next numberMemory)) → Beside x y
+      → ((r : GuardedState numberMemory markMemory) → RunBeside n (guardedRun numberMemory markMemory e n r) (run numberMemory e n (r .plain)) (λ k. run numberMemory e k (r .plain)))
+      → RunBeside (suc n) (onGuardedStep numberMemory markMemory q x (guardedRun numberMemory markMemory e n)) (onStep numberMemory (q .plain) y (run numberMemory e n)) (cutAt e (q .plain) y)
   step-case e n q x y at-sink h = record { transparent = λ a. absurd (a refl); early = λ a. (omega arith, refl) }
   step-case e n q x y (beside-refused {f}) h = same-run (suc n) _ (refused-not-sink f)
   step-case e n q x y (passed {n = m}) h =
       finish-case e (q .plain) n (record { plain = m .next .state; marks = m .marks }) (m .next .finish) (h _)
 
-  pub run-beside : (e : Environment) (n : ℕ) (q : GuardedState memory)
-      → RunBeside n (guardedRun memory e n q) (run memory e n (q .plain)) (λ k. run memory e k (q .plain))
+  pub run-beside : (e : Environment) (n : ℕ) (q : GuardedState numberMemory markMemory)
+      → RunBeside n (guardedRun numberMemory markMemory e n q) (run numberMemory e n (q .plain)) (λ k. run numberMemory e k (q .plain))
   unfolding guardedRun run
   run-beside e zero q = same-run zero _ paused-not-sink
   run-beside e (suc n) q =
-      let h = step-case e n q (guardedStep memory e q) (step memory e (q .plain)) (step-beside e q) (run-beside e n) in
+      let h = step-case e n q (guardedStep numberMemory markMemory e q) (step numberMemory e (q .plain)) (step-beside e q) (run-beside e n) in
       record {
         transparent = h .transparent;
-        early = λ a. (h .early a .0, cut-run e (q .plain) (guardedRun memory e (suc n) q .steps) ∙ h .early a .1);
+        early = λ a. (h .early a .0, cut-run e (q .plain) (guardedRun numberMemory markMemory e (suc n) q .steps) ∙ h .early a .1);
       }

@@ -4,8 +4,8 @@ use mathlib.Core.Path.{_≡_, refl, ap, subst}
 use mathlib.Core.List.{List, [], _∷_}
 use Rattle.rules.specs.declared.Instruction.{Instruction}
 use Rattle.rules.specs.Results.{GuardedResult}
-use Rattle.rules.specs.Cells.{Cells, cells}
-use Rattle.rules.specs.PlainMap.{PlainMap, plainMap}
+use Rattle.rules.specs.Cells.{Cells, numberCells, markCells}
+use Rattle.rules.specs.PlainMap.{PlainMap, numberMap, markMap}
 use Rattle.rules.specs.Opcodes.{Class, field, equality, small, complement, move, assert, rangeCheck, jump, conditionalJump, call, return, load, store, tapeLoad, tapeStore, contractCall, end, uncovered, classOf}
 use Rattle.rules.specs.Operands.{Operands}
 use Rattle.rules.specs.Step.{Environment, State, r9, Ran}
@@ -17,31 +17,31 @@ use Rattle.rules.proofs.PlainMapAgreement.{same-map, same-put, same-wit
 
 -- Marks of cells
 
-same-mark : {c : Cells ℕ} {m : PlainMap ℕ} → SameMemory c m → (a : ℕ) → cellMark (cells ℕ) c a ≡ cellMark (plainMap ℕ) m a
-same-mark h a = ap (slotMark (cells ℕ)) (h .same a)
+same-mark : {c : Cells ℕ} {m : PlainMap ℕ} → SameMemory c m → (a : ℕ) → cellMark markCells c a ≡ cellMark markMap m a
+same-mark h a = ap (slotMark markCells) (h .same a)
 
-same-span-mark : {c : Cells ℕ} {m : PlainMap ℕ} → SameMemory c m → (a n : ℕ) → spanMark (cells ℕ) c a n ≡ spanMark (plainMap ℕ) m a n
+same-span-mark : {c : Cells ℕ} {m : PlainMap ℕ} → SameMemory c m → (a n : ℕ) → spanMark markCells c a n ≡ spanMark markMap m a n
 unfolding spanMark
 same-span-mark h a zero = refl
 same-span-mark h a (suc n) = rw (same-mark h a, same-span-mark h (suc a) n)
 
 same-clean : {c : Cells ℕ} {m : PlainMap ℕ} → SameMemory c m → (a : ℕ) (vs : List ℕ)
-    → SameMemory (cleanMany (cells ℕ) c a vs) (cleanMany (plainMap ℕ) m a vs)
+    → SameMemory (cleanMany markCells c a vs) (cleanMany markMap m a vs)
 unfolding cleanMany
 same-clean h a [] = h
 same-clean h a (v ∷ vs) = same-clean (same-put h a 0) (suc a) vs
 
 -- marks with a plain map for their cells
-abbrev marksWith : MarkState (cells ℕ) → PlainMap ℕ → MarkState (plainMap ℕ)
+abbrev marksWith : MarkState markCells → PlainMap ℕ → MarkState markMap
 marksWith t m = record { registers = t .registers; cells = m }
 
-marks-with : {t : MarkState (cells ℕ)} {u : MarkState (plainMap ℕ)} → SameMarks t u → marksWith t (u .cells) ≡ u
+marks-with : {t : MarkState markCells} {u : MarkState markMap} → SameMarks t u → marksWith t (u .cells) ≡ u
 marks-with {u = u} h = λ i. record { registers = h .registers i; cells = u .cells }
 
 -- The stages, over one state and one set of marks, each also with plain maps for its cells
 
-module _ (i : Instruction) (s : State (cells ℕ)) (m : PlainMap ℕ) (o : Operands) (t : MarkState (cells ℕ)) (n : PlainMap ℕ) (g : SameMemory (t .cells) n) where
-  same-read-sink : (c : Class) → readSink (cells ℕ) t c i s o ≡ readSink (plainMap ℕ) (marksWith t n) c i (withMap s m) o
+module _ (i : Instruction) (s : State numberCells) (m : PlainMap ℕ) (o : Operands) (t : MarkState markCells) (n : PlainMap ℕ) (g : SameMemory (t .cells) n) where
+  same-read-sink : (c : Class) → readSink numberCells markCells t c i s o ≡ readSink numberMap markMap (marksWith t n) c i (withMap s m) o
   unfolding readSink
   same-read-sink (field f) = refl
   same-read-sink (equality f) = refl
@@ -53,7 +53,7 @@ module _ (i : Instruction) (s : State (cells ℕ)) (m : PlainMap ℕ) (o : Opera
   same-read-sink jump = refl
   same-read-sink conditionalJump = refl
   same-read-sink call = refl
-  same-read-sink return = same-mark g (r9 (cells ℕ) s - 1)
+  same-read-sink return = same-mark g (r9 numberCells s - 1)
   same-read-sink load = refl
   same-read-sink store = refl
   same-read-sink tapeLoad = refl
@@ -62,7 +62,7 @@ module _ (i : Instruction) (s : State (cells ℕ)) (m : PlainMap ℕ) (o : Opera
   same-read-sink end = refl
   same-read-sink uncovered = refl
 
-  same-marks-after : (c : Class) → SameMarks (marksAfter (cells ℕ) t c i s o) (marksAfter (plainMap ℕ) (marksWith t n) c i (withMap s m) o)
+  same-marks-after : (c : Class) → SameMarks (marksAfter numberCells markCells t c i s o) (marksAfter numberMap markMap (marksWith t n) c i (withMap s m) o)
   unfolding marksAfter
   same-marks-after (field f) = record { registers = refl; cells = g }
   same-marks-after (equality f) = record { registers = refl; cells = g }
@@ -74,7 +74,7 @@ module _ (i : Instruction) (s : State (cells ℕ)) (m : PlainMap ℕ) (o : Opera
   same-marks-after jump = record { registers = refl; cells = g }
   same-marks-after conditionalJump = record { registers = refl; cells = g }
   same-marks-after call = record { registers = refl; cells = same-put g _ _ }
-  same-marks-after return = record { registers = rw (same-mark g (r9 (cells ℕ) s - 2)); cells = g }
+  same-marks-after return = record { registers = rw (same-mark g (r9 numberCells s - 2)); cells = g }
   same-marks-after load = record { registers = rw (same-mark g); cells = g }
   same-marks-after store = record { registers = refl; cells = same-put g _ _ }
   same-marks-after tapeLoad = record { registers = refl; cells = same-clean g _ _ }
@@ -85,11 +85,11 @@ module _ (i : Instruction) (s : State (cells ℕ)) (m : PlainMap ℕ) (o : Opera
 
 -- Step and run
 
-abbrev guardedWith : GuardedState (cells ℕ) → PlainMap ℕ → PlainMap ℕ → GuardedState (plainMap ℕ)
+abbrev guardedWith : GuardedState numberCells markCells → PlainMap ℕ → PlainMap ℕ → GuardedState numberMap markMap
 guardedWith q m n = record { plain = withMap (q .plain) m; marks = marksWith (q .marks) n }
 
-same-guarded-with : (e : Environment) (q : GuardedState (cells ℕ)) (m n : PlainMap ℕ) → SameMemory (q .plain .cells) m → SameMemory (q .marks .cells) n
-    → BothGuarded SameGuardedNext (guardedStep (cells ℕ) e q) (guardedStep (plainMap ℕ) e (guardedWith q m n))
+same-guarded-with : (e : Environment) (q : GuardedState numberCells markCells) (m n : PlainMap ℕ) → SameMemory (q .plain .cells) m → SameMemory (q .marks .cells) n
+    → BothGuarded SameGuardedNext (guardedStep numberCells markCells e q) (guardedStep numberMap markMap e (guardedWith q m n))
 unfolding guardedStep guardedRest
 same-guarded-with e q m n h g =
     both-after-equal _ _ refl λ i.
@@ -100,32 +100,32 @@ same-guarded-with e q m n h g =
     (both-after _ _ (same-capacity e k) λ x y k.
     passed-alike (record { next = k; marks = same-marks-after i (q .plain) m o (q .marks) n g (classOf (i .opcode)) })))
 
-pub same-guarded-step : (e : Environment) {q : GuardedState (cells ℕ)} {r : GuardedState (plainMap ℕ)} → SameGuardedState q r
-    → BothGuarded SameGuardedNext (guardedStep (cells ℕ) e q) (guardedStep (plainMap ℕ) e r)
+pub same-guarded-step : (e : Environment) {q : GuardedState numberCells markCells} {r : GuardedState numberMap markMap} → SameGuardedState q r
+    → BothGuarded SameGuardedNext (guardedStep numberCells markCells e q) (guardedStep numberMap markMap e r)
 same-guarded-step e {q} {r} h =
-    subst (λ r. BothGuarded SameGuardedNext (guardedStep (cells ℕ) e q) (guardedStep (plainMap ℕ) e r)) whole
+    subst (λ r. BothGuarded SameGuardedNext (guardedStep numberCells markCells e q) (guardedStep numberMap markMap e r)) whole
     (same-guarded-with e q (r .plain .cells) (r .marks .cells) (h .plain .cells) (h .marks .cells))
   where
     whole : guardedWith q (r .plain .cells) (r .marks .cells) ≡ r
     whole = λ i. record { plain = with-same (h .plain) i; marks = marks-with (h .marks) i }
 
 -- the states that an accepted step leaves
-left : {n : GuardedNext (cells ℕ)} {m : GuardedNext (plainMap ℕ)} → SameGuardedNext n m
+left : {n : GuardedNext numberCells markCells} {m : GuardedNext numberMap markMap} → SameGuardedNext n m
     → SameGuardedState (record { plain = n .next .state; marks = n .marks }) (record { plain = m .next .state; marks = m .marks })
 left a = record { plain = a .next .state; marks = a .marks }
 
-same-on-step : {q : GuardedState (cells ℕ)} {r : GuardedState (plainMap ℕ)} {x : GuardedResult (GuardedNext (cells ℕ))} {y : GuardedResult (GuardedNext (plainMap ℕ))}
-    (k : GuardedState (cells ℕ) → Ran (GuardedState (cells ℕ))) (l : GuardedState (plainMap ℕ) → Ran (GuardedState (plainMap ℕ)))
+same-on-step : {q : GuardedState numberCells markCells} {r : GuardedState numberMap markMap} {x : GuardedResult (GuardedNext numberCells markCells)} {y : GuardedResult (GuardedNext numberMap markMap)}
+    (k : GuardedState numberCells markCells → Ran (GuardedState numberCells markCells)) (l : GuardedState numberMap markMap → Ran (GuardedState numberMap markMap))
     → SameGuardedState q r → BothGuarded SameGuardedNext x y
-    → ((q : GuardedState (cells ℕ)) (r : GuardedState (plainMap ℕ)) → SameGuardedState q r → BothRan SameGuardedState (k q) (l r))
-    → BothRan SameGuardedState (onGuardedStep (cells ℕ) q x k) (onGuardedStep (plainMap ℕ) r y l)
+    → ((q : GuardedState numberCells markCells) (r : GuardedState numberMap markMap) → SameGuardedState q r → BothRan SameGuardedState (k q) (l r))
+    → BothRan SameGuardedState (onGuardedStep numberCells markCells q x k) (onGuardedStep numberMap markMap r y l)
 same-on-step k l h refused-alike g = record { answer = refl; steps = refl; state = h }
 same-on-step k l h sink-alike g = record { answer = refl; steps = refl; state = h }
 same-on-step k l h (passed-alike a) g =
     both-finish SameGuardedState _ _ k l (a .next .finish) (a .next .state .clk) (left a) (g _ _ (left a))
 
-pub same-guarded-run : (e : Environment) (budget : ℕ) {q : GuardedState (cells ℕ)} {r : GuardedState (plainMap ℕ)} → SameGuardedState q r
-    → BothRan SameGuardedState (guardedRun (cells ℕ) e budget q) (guardedRun (plainMap ℕ) e budget r)
+pub same-guarded-run : (e : Environment) (budget : ℕ) {q : GuardedState numberCells markCells} {r : GuardedState numberMap markMap} → SameGuardedState q r
+    → BothRan SameGuardedState (guardedRun numberCells markCells e budget q) (guardedRun numberMap markMap e budget r)
 unfolding guardedRun
 same-guarded-run e zero h = record { answer = refl; steps = refl; state = h }
 same-guarded-run e (suc budget) h = same-on-step _ _ h (same-guarded-step e h) (λ q r k. same-guarded-run e budget k)
@@ -139,7 +139,7 @@ map-agreement e =
       guardedRun = λ n q r. same-guarded-run e n (start q r);
     }
   where
-    start : (q : GuardedState (cells ℕ)) → GuardedRising q → SameGuardedState q (mapGuardedState q)
+    start : (q : GuardedState numberCells markCells) → GuardedRising q → SameGuardedState q (mapGuardedState q)
     start q r =
         record {
           plain = same-with (same-map (q .plain .cells) (r .plain));

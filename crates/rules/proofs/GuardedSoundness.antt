@@ -11,7 +11,7 @@ use Rattle.rules.specs.declared.Instruction.{Instruction}
 use Rattle.rules.specs.Numbers.{p, choose, bit}
 use Rattle.rules.specs.Results.{pass, GuardedResult, passes}
 use Rattle.rules.specs.Memory.{present}
-use Rattle.rules.specs.Cells.{Cells, none, cell, get, put, addresses, RisingFrom, cells}
+use Rattle.rules.specs.Cells.{Cells, none, cell, get, put, addresses, RisingFrom, numberCells, markCells}
 use Rattle.rules.specs.Opcodes.{Class, field, equality, small, complement, move, assert, rangeCheck, jump, conditionalJump, call, return, load, store, tapeLoad, tapeStore, contractCall, end, uncovered, classOf}
 use Rattle.rules.specs.Operands.{Operands}
 use Rattle.rules.specs.Step.{Environment, State, Ran, slotValue}
@@ -42,7 +42,7 @@ registers-beside (b ∷ l) [] n h = absurd (omega arith)
 registers-beside (b ∷ l) (v ∷ r) n h = RegistersRelated.cons (beside-itself b v (h 0)) (registers-beside l r (omega arith) (λ i. h (suc i)))
 
 cells-beside : (n : ℕ) (k c : Cells ℕ) → RisingFrom n c → addresses k ≡ addresses c
-    → ((a v : ℕ) → cellMark (cells ℕ) k a ≡ true → get c a ≡ present v → v < p) → CellsRelated k c c
+    → ((a v : ℕ) → cellMark markCells k a ≡ true → get c a ≡ present v → v < p) → CellsRelated k c c
 cells-beside n none none r e h = CellsRelated.nil
 cells-beside n none (cell b v c) r e h = absurd (let z : _≡_ {A = ℕ} 0 1 = cc in omega arith)
 cells-beside n (cell a t k) none r e h = absurd (let z : _≡_ {A = ℕ} 0 1 = cc in omega arith)
@@ -52,8 +52,8 @@ cells-beside n (cell a t k) (cell b v c) r e h =
     go b d (r .1) h (λ x. cells-beside (suc b) k c (r .1) f x)
   where
     go : (b : ℕ) → b ≡ a → RisingFrom (suc b) c
-        → ((x w : ℕ) → cellMark (cells ℕ) (cell a t k) x ≡ true → get (cell b v c) x ≡ present w → w < p)
-        → (((x w : ℕ) → cellMark (cells ℕ) k x ≡ true → get c x ≡ present w → w < p) → CellsRelated k c c)
+        → ((x w : ℕ) → cellMark markCells (cell a t k) x ≡ true → get (cell b v c) x ≡ present w → w < p)
+        → (((x w : ℕ) → cellMark markCells k x ≡ true → get c x ≡ present w → w < p) → CellsRelated k c c)
         → CellsRelated (cell a t k) (cell b v c) (cell b v c)
     go b d r h rest =
         subst (λ x. CellsRelated (cell x t k) (cell b v c) (cell b v c)) d
@@ -62,13 +62,13 @@ cells-beside n (cell a t k) (cell b v c) r e h =
         head : eqb t 1 ≡ true → v < p
         head f = h b v (rw (eq-eqb a b (sym d)) f) (rw (eq-eqb b b refl))
 
-        tail : (x w : ℕ) → cellMark (cells ℕ) k x ≡ true → get c x ≡ present w → w < p
+        tail : (x w : ℕ) → cellMark markCells k x ≡ true → get c x ≡ present w → w < p
         tail x w f g =
             let o : eqb b x ≡ false = other-address b c x w r g in
             let u : eqb a x ≡ false = ap (λ y. eqb y x) (sym d) ∙ o in
             h x w (rw u f) (rw o g)
 
-pub sound-beside : {e : Environment} {q : GuardedState (cells ℕ)} → GuardedSound e q → GuardedRelated q q
+pub sound-beside : {e : Environment} {q : GuardedState numberCells markCells} → GuardedSound e q → GuardedRelated q q
 sound-beside {e} {q} h =
     let s = q .plain in
     record {
@@ -90,10 +90,10 @@ beside-addresses : {k c d : Cells ℕ} → CellsRelated k c d → addresses k �
 beside-addresses CellsRelated.nil = refl
 beside-addresses (CellsRelated.cons {a = a} h r) = ap (_∷_ a) (beside-addresses r)
 
-beside-cell : {k c : Cells ℕ} → CellsRelated k c c → (a v : ℕ) → cellMark (cells ℕ) k a ≡ true → get c a ≡ present v → v < p
-beside-cell {k} h a v t e = go (subst (λ x. Both (Related (cellMark (cells ℕ) k a)) (slotValue (cells ℕ) x) (slotValue (cells ℕ) x)) e (cell-read h a))
+beside-cell : {k c : Cells ℕ} → CellsRelated k c c → (a v : ℕ) → cellMark markCells k a ≡ true → get c a ≡ present v → v < p
+beside-cell {k} h a v t e = go (subst (λ x. Both (Related (cellMark markCells k a)) (slotValue numberCells x) (slotValue numberCells x)) e (cell-read h a))
   where
-    go : {v : ℕ} → Both (Related (cellMark (cells ℕ) k a)) (pass v) (pass v) → v < p
+    go : {v : ℕ} → Both (Related (cellMark markCells k a)) (pass v) (pass v) → v < p
     go (passed r) = below r t
 
 -- Marks are 0 or 1
@@ -112,13 +112,13 @@ put-bit c a v l h x w e = go (eqb a x) (sym (get-put c a v x) ∙ e)
     go true f = let z : v ≡ w = cc in omega arith
     go false f = h x w f
 
-clean-bits : (vs : List ℕ) (c : Cells ℕ) (a : ℕ) → ZeroOrOne c → ZeroOrOne (cleanMany (cells ℕ) c a vs)
+clean-bits : (vs : List ℕ) (c : Cells ℕ) (a : ℕ) → ZeroOrOne c → ZeroOrOne (cleanMany markCells c a vs)
 unfolding cleanMany
 clean-bits [] c a h = h
 clean-bits (v ∷ vs) c a h = clean-bits vs (put c a 0) (suc a) (put-bit c a 0 (omega arith) h)
 
-after-bits : (t : MarkState (cells ℕ)) (c : Class) (i : Instruction) (s : State (cells ℕ)) (o : Operands) → ZeroOrOne (t .cells)
-    → ZeroOrOne (marksAfter (cells ℕ) t c i s o .cells)
+after-bits : (t : MarkState markCells) (c : Class) (i : Instruction) (s : State numberCells) (o : Operands) → ZeroOrOne (t .cells)
+    → ZeroOrOne (marksAfter numberCells markCells t c i s o .cells)
 unfolding marksAfter
 after-bits t (field f) i s o h = h
 after-bits t (equality f) i s o h = h
@@ -141,14 +141,14 @@ after-bits t uncovered i s o h = h
 
 -- A run keeps the plain part sound and the marks 0 or 1
 
-record Kept (e : Environment) (q : GuardedState (cells ℕ)) : Type 0 where
+record Kept (e : Environment) (q : GuardedState numberCells markCells) : Type 0 where
   plain : Sound e (q .plain)
   zeroOrOne : ZeroOrOne (q .marks .cells)
 
-abbrev left : GuardedNext (cells ℕ) → GuardedState (cells ℕ)
+abbrev left : GuardedNext numberCells markCells → GuardedState numberCells markCells
 left n = record { plain = n .next .state; marks = n .marks }
 
-step-keeps : (e : Environment) (q : GuardedState (cells ℕ)) → Kept e q → PassingGuarded (λ n. Kept e (left n)) (guardedStep (cells ℕ) e q)
+step-keeps : (e : Environment) (q : GuardedState numberCells markCells) → Kept e q → PassingGuarded (λ n. Kept e (left n)) (guardedStep numberCells markCells e q)
 unfolding guardedStep guardedRest
 step-keeps e q h =
     passing-after-any _ _ λ i.
@@ -159,22 +159,22 @@ step-keeps e q h =
     (passing-after _ (capacity-sound e n k) λ n l.
     passed-guarded (record { plain = l; zeroOrOne = after-bits (q .marks) (classOf (i .opcode)) i (q .plain) o (h .zeroOrOne) })))
 
-on-step-keeps : (e : Environment) (q : GuardedState (cells ℕ)) {r : GuardedResult (GuardedNext (cells ℕ))}
-    (k : GuardedState (cells ℕ) → Ran (GuardedState (cells ℕ))) → Kept e q → PassingGuarded (λ n. Kept e (left n)) r
-    → ((q : GuardedState (cells ℕ)) → Kept e q → Kept e (k q .state)) → Kept e (onGuardedStep (cells ℕ) q r k .state)
+on-step-keeps : (e : Environment) (q : GuardedState numberCells markCells) {r : GuardedResult (GuardedNext numberCells markCells)}
+    (k : GuardedState numberCells markCells → Ran (GuardedState numberCells markCells)) → Kept e q → PassingGuarded (λ n. Kept e (left n)) r
+    → ((q : GuardedState numberCells markCells) → Kept e q → Kept e (k q .state)) → Kept e (onGuardedStep numberCells markCells q r k .state)
 on-step-keeps e q k h refused-guarded g = h
 on-step-keeps e q k h sink-guarded g = h
 on-step-keeps e q k h (passed-guarded {a = n} x) g = finish-keeps (Kept e) (n .next .finish) (n .next .state .clk) (left n) k x (g (left n) x)
 
-run-keeps : (e : Environment) (budget : ℕ) (q : GuardedState (cells ℕ)) → Kept e q → Kept e (guardedRun (cells ℕ) e budget q .state)
+run-keeps : (e : Environment) (budget : ℕ) (q : GuardedState numberCells markCells) → Kept e q → Kept e (guardedRun numberCells markCells e budget q .state)
 unfolding guardedRun
 run-keeps e zero q h = h
-run-keeps e (suc budget) q h = on-step-keeps e q (guardedRun (cells ℕ) e budget) h (step-keeps e q h) (run-keeps e budget)
+run-keeps e (suc budget) q h = on-step-keeps e q (guardedRun numberCells markCells e budget) h (step-keeps e q h) (run-keeps e budget)
 
 -- Step and run
 
-pub guarded-run-sound : (e : Environment) (budget : ℕ) (q : GuardedState (cells ℕ)) → GuardedSound e q
-    → GuardedSound e (guardedRun (cells ℕ) e budget q .state)
+pub guarded-run-sound : (e : Environment) (budget : ℕ) (q : GuardedState numberCells markCells) → GuardedSound e q
+    → GuardedSound e (guardedRun numberCells markCells e budget q .state)
 guarded-run-sound e budget q h =
     let k = run-keeps e budget q (record { plain = h .plain; zeroOrOne = h .zeroOrOne }) in
     let b = run-agrees e budget q q (sound-beside h) .state .plain in
@@ -188,15 +188,15 @@ guarded-run-sound e budget q h =
     }
 
 -- an accepted step leaves what a run of one step leaves
-one-step : (e : Environment) (q : GuardedState (cells ℕ)) (n : GuardedNext (cells ℕ)) → guardedStep (cells ℕ) e q ≡ passes n
-    → guardedRun (cells ℕ) e 1 q .state ≡ left n
+one-step : (e : Environment) (q : GuardedState numberCells markCells) (n : GuardedNext numberCells markCells) → guardedStep numberCells markCells e q ≡ passes n
+    → guardedRun numberCells markCells e 1 q .state ≡ left n
 unfolding guardedRun
 one-step e q n h =
-    ap (λ r. onGuardedStep (cells ℕ) q r (guardedRun (cells ℕ) e 0) .state) h
-    ∙ finish-keeps (λ s. s ≡ left n) (n .next .finish) (n .next .state .clk) (left n) (guardedRun (cells ℕ) e 0) refl refl
+    ap (λ r. onGuardedStep numberCells markCells q r (guardedRun numberCells markCells e 0) .state) h
+    ∙ finish-keeps (λ s. s ≡ left n) (n .next .finish) (n .next .state .clk) (left n) (guardedRun numberCells markCells e 0) refl refl
 
-pub guarded-step-sound : (e : Environment) (q : GuardedState (cells ℕ)) → GuardedSound e q → (n : GuardedNext (cells ℕ))
-    → guardedStep (cells ℕ) e q ≡ passes n → GuardedSound e (left n)
+pub guarded-step-sound : (e : Environment) (q : GuardedState numberCells markCells) → GuardedSound e q → (n : GuardedNext numberCells markCells)
+    → guardedStep numberCells markCells e q ≡ passes n → GuardedSound e (left n)
 guarded-step-sound e q h n k = subst (GuardedSound e) (one-step e q n k) (guarded-run-sound e 1 q h)
 
 pub keeps-sound : (e : Environment) → KeepsSound e

@@ -17,7 +17,7 @@ use Rattle.rules.specs.declared.Instruction.{Instruction}
 use Rattle.rules.specs.Numbers.{bit}
 use Rattle.rules.specs.Results.{pass}
 use Rattle.rules.specs.Field.{fieldAdd}
-use Rattle.rules.specs.Cells.{put, cells}
+use Rattle.rules.specs.Cells.{put, numberCells, markCells}
 use Rattle.rules.specs.Opcodes.{Class, classOf}
 use Rattle.rules.specs.Operands.{target, wantsOf, valueOf, operand, Operands, operands}
 use Rattle.rules.specs.Step.{State, r9, tapeValues}
@@ -112,13 +112,13 @@ use Rattle.rules.proofs.WrittenPlaces.{
 }
 
 -- the marks of a state, place by place
-abbrev pub markingOf : MarkState (cells ℕ) → Marking
+abbrev pub markingOf : MarkState markCells → Marking
 markingOf t (register r) = registerMark (t .registers) r
-markingOf t (cell a) = cellMark (cells ℕ) (t .cells) a
+markingOf t (cell a) = cellMark markCells (t .cells) a
 
 -- Operands
 
-pub operand-mark : (t : MarkState (cells ℕ)) {o : OlaOperand} {b : Bool} → OperandMarked (markingOf t) o b → operandMark (t .registers) o ≡ b
+pub operand-mark : (t : MarkState markCells) {o : OlaOperand} {b : Bool} → OperandMarked (markingOf t) o b → operandMark (t .registers) o ≡ b
 operand-mark t of-immediate = refl
 operand-mark t of-psp = refl
 operand-mark t of-register = refl
@@ -126,7 +126,7 @@ operand-mark t of-offset = refl
 operand-mark t of-factor = refl
 
 -- an operand that gives a number has a mark
-pub value-marked : (t : MarkState (cells ℕ)) (psp : ℕ) (registers : List ℕ) (o : OlaOperand) {v : ℕ} → valueOf psp registers o ≡ pass v
+pub value-marked : (t : MarkState markCells) (psp : ℕ) (registers : List ℕ) (o : OlaOperand) {v : ℕ} → valueOf psp registers o ≡ pass v
     → OperandMarked (markingOf t) o (operandMark (t .registers) o)
 unfolding valueOf
 value-marked t psp registers Absent h = refuse-pass h
@@ -138,7 +138,7 @@ value-marked t psp registers Psp h = of-psp
 value-marked t psp registers Pc h = refuse-pass h
 
 -- What the operands of an opcode say of their own marks, and of its destination
-data Proper (t : MarkState (cells ℕ)) (i : Instruction) (o : Operands) : OlaOpcode → Type 0 where
+data Proper (t : MarkState markCells) (i : Instruction) (o : Operands) : OlaOpcode → Type 0 where
   proper-both : {c : OlaOpcode} → FromBoth c
       → OperandMarked (markingOf t) (i .op0) (operandMark (t .registers) (i .op0))
       → OperandMarked (markingOf t) (i .op1) (operandMark (t .registers) (i .op1))
@@ -155,7 +155,7 @@ data Proper (t : MarkState (cells ℕ)) (i : Instruction) (o : Operands) : OlaOp
   proper-tload : Proper t i o O.Tload
   proper-nothing : {c : OlaOpcode} → WritesNothing c → Proper t i o c
 
-module _ (t : MarkState (cells ℕ)) (i : Instruction) (s : State (cells ℕ)) (o : Operands) where
+module _ (t : MarkState markCells) (i : Instruction) (s : State numberCells) (o : Operands) where
   abbrev mark0 : Bool
   mark0 = operandMark (t .registers) (i .op0)
 
@@ -163,14 +163,14 @@ module _ (t : MarkState (cells ℕ)) (i : Instruction) (s : State (cells ℕ)) (
   mark1 = operandMark (t .registers) (i .op1)
 
   abbrev after : OlaOpcode → Marking
-  after c = markingOf (marksAfter (cells ℕ) t (classOf c) i s o)
+  after c = markingOf (marksAfter numberCells markCells t (classOf c) i s o)
 
   -- by the rules, the place x of the opcode c has the mark b
   abbrev Rules : OlaOpcode → Place → Bool → Type 0
   Rules c x b = MarkedAfter (markingOf t) i s o c x b
 
   after-both : {c : OlaOpcode} → FromBoth c
-      → marksAfter (cells ℕ) t (classOf c) i s o ≡ record { registers = set (t .registers) (o .dst) (mark0 || mark1); cells = t .cells }
+      → marksAfter numberCells markCells t (classOf c) i s o ≡ record { registers = set (t .registers) (o .dst) (mark0 || mark1); cells = t .cells }
   unfolding marksAfter classOf
   after-both add = refl
   after-both mul = refl
@@ -182,12 +182,12 @@ module _ (t : MarkState (cells ℕ)) (i : Instruction) (s : State (cells ℕ)) (
   after-both gte = refl
 
   after-one : {c : OlaOpcode} → FromOne c
-      → marksAfter (cells ℕ) t (classOf c) i s o ≡ record { registers = set (t .registers) (o .dst) mark1; cells = t .cells }
+      → marksAfter numberCells markCells t (classOf c) i s o ≡ record { registers = set (t .registers) (o .dst) mark1; cells = t .cells }
   unfolding marksAfter classOf
   after-one not = refl
   after-one mov = refl
 
-  after-nothing : {c : OlaOpcode} → WritesNothing c → marksAfter (cells ℕ) t (classOf c) i s o ≡ t
+  after-nothing : {c : OlaOpcode} → WritesNothing c → marksAfter numberCells markCells t (classOf c) i s o ≡ t
   unfolding marksAfter classOf
   after-nothing assert = refl
   after-nothing jmp = refl
@@ -217,12 +217,12 @@ module _ (t : MarkState (cells ℕ)) (i : Instruction) (s : State (cells ℕ)) (
           (kept (λ w. eqb-false d r e (only r w)))
 
   at-cell : {c : OlaOpcode} (d : ℕ) (b : Bool) → Rules c (cell d) b → ((a : ℕ) → Writes s o c (cell a) → d ≡ a)
-      → (a : ℕ) → Rules c (cell a) (cellMark (cells ℕ) (put (t .cells) d (bit b)) a)
+      → (a : ℕ) → Rules c (cell a) (cellMark markCells (put (t .cells) d (bit b)) a)
   at-cell {c} d b h only a = go (eqb d a) refl
     where
-      go : (e : Bool) → eqb d a ≡ e → Rules c (cell a) (cellMark (cells ℕ) (put (t .cells) d (bit b)) a)
+      go : (e : Bool) → eqb d a ≡ e → Rules c (cell a) (cellMark markCells (put (t .cells) d (bit b)) a)
       go true e =
-          subst (λ a. Rules c (cell a) (cellMark (cells ℕ) (put (t .cells) d (bit b)) a)) (eqb-true d a e)
+          subst (λ a. Rules c (cell a) (cellMark markCells (put (t .cells) d (bit b)) a)) (eqb-true d a e)
           (subst (Rules c (cell d)) (sym (stored-mark (t .cells) d b)) h)
       go false e =
           subst (Rules c (cell a)) (sym (other-mark (t .cells) d (bit b) a (eqb-false d a e)))
@@ -233,7 +233,7 @@ module _ (t : MarkState (cells ℕ)) (i : Instruction) (s : State (cells ℕ)) (
   loaded = length (tapeValues (o .op0) (o .op1) (s .tape))
 
   abbrev loadedMark : ℕ → Bool
-  loadedMark a = cellMark (cells ℕ) (cleanMany (cells ℕ) (t .cells) (o .dst) (tapeValues (o .op0) (o .op1) (s .tape))) a
+  loadedMark a = cellMark markCells (cleanMany markCells (t .cells) (o .dst) (tapeValues (o .op0) (o .op1) (s .tape))) a
 
   outside-tape : (a : ℕ) → (o .dst ≤ a → a < o .dst + loaded → ⊥) → Rules O.Tload (cell a) (loadedMark a)
   outside-tape a h =
@@ -267,7 +267,7 @@ module _ (t : MarkState (cells ℕ)) (i : Instruction) (s : State (cells ℕ)) (
   computed-follows proper-mstore (register r) = kept (mstore-register s o)
   computed-follows proper-mstore (cell a) = at-cell (fieldAdd (o .op0) (o .op1)) _ mstore-passes (λ _. mstore-cell s o) a
   computed-follows proper-call (register r) = kept (call-register s o)
-  computed-follows proper-call (cell a) = at-cell (r9 (cells ℕ) s - 1) false return-pc (λ _. call-cell s o) a
+  computed-follows proper-call (cell a) = at-cell (r9 numberCells s - 1) false return-pc (λ _. call-cell s o) a
   computed-follows proper-tload (register r) = kept (tload-register s o)
   computed-follows proper-tload (cell a) = at-tape a
   computed-follows (proper-nothing n) x = rw (after-nothing n) (kept (nothing-written s o n))
@@ -279,7 +279,7 @@ module _ (t : MarkState (cells ℕ)) (i : Instruction) (s : State (cells ℕ)) (
   unwritten-register {c} d b w r h = getD-set-other (t .registers) d r b false (λ e. h (subst (λ r. Writes s o c (register r)) (sym e) w))
 
   unwritten-cell : {c : OlaOpcode} (d v : ℕ) → Writes s o c (cell d) → (a : ℕ) → (Writes s o c (cell a) → ⊥)
-      → cellMark (cells ℕ) (put (t .cells) d v) a ≡ cellMark (cells ℕ) (t .cells) a
+      → cellMark markCells (put (t .cells) d v) a ≡ cellMark markCells (t .cells) a
   unwritten-cell {c} d v w a h = other-mark (t .cells) d v a (λ e. h (subst (λ a. Writes s o c (cell a)) e w))
 
   kept-computed : {c : OlaOpcode} → WritesBy c → (x : Place) → (Writes s o c x → ⊥) → after c x ≡ markingOf t x
@@ -295,7 +295,7 @@ module _ (t : MarkState (cells ℕ)) (i : Instruction) (s : State (cells ℕ)) (
   kept-computed of-mstore (register r) h = refl
   kept-computed of-mstore (cell a) h = unwritten-cell (fieldAdd (o .op0) (o .op1)) _ mstore a h
   kept-computed of-call (register r) h = refl
-  kept-computed of-call (cell a) h = unwritten-cell (r9 (cells ℕ) s - 1) _ call a h
+  kept-computed of-call (cell a) h = unwritten-cell (r9 numberCells s - 1) _ call a h
   kept-computed of-tload (register r) h = refl
   kept-computed of-tload (cell a) h = clean-outside (t .cells) (o .dst) _ a (λ l u. h (tload l u))
   kept-computed (of-nothing n) x h = rw (after-nothing n)
@@ -341,7 +341,7 @@ module _ (t : MarkState (cells ℕ)) (i : Instruction) (s : State (cells ℕ)) (
   follows-computed h mload-passes = getD-set-same (t .registers) (o .dst) _ false (mload-bound h)
   follows-computed h ret-passes = getD-set-same (t .registers) 9 _ false (ret-bound h)
   follows-computed h (tape-value {a} w) = clean-inside (t .cells) (o .dst) _ a (tload-cell s o w .0) (tload-cell s o w .1)
-  follows-computed h return-pc = stored-mark (t .cells) (r9 (cells ℕ) s - 1) false
+  follows-computed h return-pc = stored-mark (t .cells) (r9 numberCells s - 1) false
   follows-computed h (kept {c} {x} w) = kept-computed (kindOf c) x w
 
 -- Operands that were read make an opcode proper
@@ -368,7 +368,7 @@ target-in-range psp registers (RegisterWithFactor r w) h l = refuse-pass h
 target-in-range psp registers Psp h l = refuse-pass h
 target-in-range psp registers Pc h l = refuse-pass h
 
-module _ (t : MarkState (cells ℕ)) (i : Instruction) (o : Operands) (psp : ℕ) (registers : List ℕ) (ten : length (t .registers) ≡ 10) (inRange : RegistersInRange i) where
+module _ (t : MarkState markCells) (i : Instruction) (o : Operands) (psp : ℕ) (registers : List ℕ) (ten : length (t .registers) ≡ 10) (inRange : RegistersInRange i) where
   dst-bound : operand psp registers target (i .dst) ≡ pass (o .dst) → o .dst < length (t .registers)
   dst-bound h = let l : o .dst < 10 = target-in-range psp registers (i .dst) h (inRange .dst) in omega arith
 
@@ -412,8 +412,8 @@ module _ (t : MarkState (cells ℕ)) (i : Instruction) (o : Operands) (psp : ℕ
   proper O.Event h = proper-nothing event
 
   -- the marks after a step, by the rules and as computed
-  pub marks-exact : (s : State (cells ℕ)) → operands psp registers (classOf (i .opcode)) i ≡ pass o → (x : Place) (b : Bool)
-      → MarkedAfter (markingOf t) i s o (i .opcode) x b ↔ (markingOf (marksAfter (cells ℕ) t (classOf (i .opcode)) i s o) x ≡ b)
+  pub marks-exact : (s : State numberCells) → operands psp registers (classOf (i .opcode)) i ≡ pass o → (x : Place) (b : Bool)
+      → MarkedAfter (markingOf t) i s o (i .opcode) x b ↔ (markingOf (marksAfter numberCells markCells t (classOf (i .opcode)) i s o) x ≡ b)
   marks-exact s h x b =
       let p = proper (i .opcode) h in
       (follows-computed t i s o p, λ e. subst (MarkedAfter (markingOf t) i s o (i .opcode) x) e (computed-follows t i s o p x))

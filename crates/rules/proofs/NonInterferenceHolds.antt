@@ -11,7 +11,7 @@ use Rattle.rules.specs.Numbers.{choose}
 use Rattle.rules.specs.Results.{Result, refuse, pass}
 use Rattle.rules.specs.Frames.{loadWords}
 use Rattle.rules.specs.Text.{loadText, loadBudgetText}
-use Rattle.rules.specs.Cells.{zipped, cells}
+use Rattle.rules.specs.Cells.{zipped, numberCells, markCells}
 use Rattle.rules.specs.Step.{Ran}
 use Rattle.rules.specs.Guarded.{GuardedState, guardedRun}
 use Rattle.rules.specs.Answers.{Meaning, meaning}
@@ -48,7 +48,7 @@ same-environment program g h al = λ j.
 same-marks : (g h : GuardedSnapshot) → Alike g h → guardedStateOf g .marks ≡ guardedStateOf h .marks
 same-marks g h al = λ j. record { registers = lowBits 10 (al .registerMarks j); cells = zipped (al .addresses j) (al .marks j) }
 
-answers-same : (g h : GuardedSnapshot) → Alike g h → (r u : Ran (GuardedState (cells ℕ))) → BothRan GuardedRelated r u
+answers-same : (g h : GuardedSnapshot) → Alike g h → (r u : Ran (GuardedState numberCells markCells)) → BothRan GuardedRelated r u
     → SameCalls (guardedAnswered g r) (guardedAnswered h u)
 answers-same g h al r u w =
     record {
@@ -62,7 +62,7 @@ answers-same g h al r u w =
 module _ (program : List Instruction) (budget : ℕ) (g h : GuardedSnapshot) (al : Alike g h) (b : MarkedBelow g) (c : MarkedBelow h) where
   runs-same : guardedEntry g ≡ true → BothRan GuardedRelated (guardedRunOf program budget g) (guardedRunOf program budget h)
   runs-same t =
-      subst (λ e. BothRan GuardedRelated (guardedRunOf program budget g) (guardedRun (cells ℕ) e budget (guardedStateOf h))) (same-environment program g h al)
+      subst (λ e. BothRan GuardedRelated (guardedRunOf program budget g) (guardedRun numberCells markCells e budget (guardedStateOf h))) (same-environment program g h al)
       (run-agrees (environment program (g .plain)) budget (guardedStateOf g) (guardedStateOf h)
       (record { marks = same-marks g h al; plain = states-related g h (close al b c) t }))
 
@@ -134,7 +134,7 @@ transparent (pass program) budget g t h = go (guardedEntry g) refl
     go true e =
         ap unmarked (call-run program budget g e)
         ∙ (ap (plainAnswered (g .plain))
-        (run-beside (cells ℕ) (environment program (g .plain)) budget (guardedStateOf g) .transparent
+        (run-beside numberCells markCells (environment program (g .plain)) budget (guardedStateOf g) .transparent
         (λ a. h (ap (λ (c : Called GuardedSnapshot). c .answer) (call-run program budget g e) ∙ (ap meaning a ∙ sink-meaning))))
         ∙ sym (plain-run program budget g budget e))
     go false e =
@@ -153,7 +153,7 @@ stops-early : (program : Result (List Instruction)) (budget : ℕ) (g : GuardedS
 stops-early (refuse f) budget g k a = absurd (refused-no-sink f budget g (a .0))
 stops-early (pass program) budget g k a =
     let t = sink-enters program budget g (a .0) in
-    let h = run-beside (cells ℕ) (environment program (g .plain)) budget (guardedStateOf g) .early (run-sinks program budget g (a .0)) in
+    let h = run-beside numberCells markCells (environment program (g .plain)) budget (guardedStateOf g) .early (run-sinks program budget g (a .0)) in
     subst (λ k. (k < budget) × (plainCall (pass program) k (g .plain) ≡ pausedAfter k (guardedCall (pass program) budget g .left .plain))) (a .1)
     (subst (λ (c : Called GuardedSnapshot). (c .steps < budget) × (plainCall (pass program) (c .steps) (g .plain) ≡ pausedAfter (c .steps) (c .left .plain)))
     (sym (call-run program budget g t)) (

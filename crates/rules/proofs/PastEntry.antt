@@ -95,33 +95,33 @@ operands-read psp registers c i =
     refusing-bind _ (operand-read psp registers _ _) λ d.
     passed
 
-module _ (memory : Memory ℕ) where
-  open Memory memory using (Mem, get)
+module _ (numberMemory markMemory : Memory ℕ) where
+  open Memory numberMemory using (Mem, get)
 
   -- Reading and storing
 
-  slot-read : (s : Slot ℕ) → Refusing AtStep (slotValue memory s)
+  slot-read : (s : Slot ℕ) → Refusing AtStep (slotValue numberMemory s)
   unfolding refusalMeaning
   slot-read absent = refusing-refused refl
   slot-read (present v) = passed
 
-  cell-read : (c : Mem) (a : ℕ) → Refusing AtStep (read memory c a)
+  cell-read : (c : Mem) (a : ℕ) → Refusing AtStep (read numberMemory c a)
   cell-read c a = slot-read (get c a)
 
-  below-read : (c : Mem) (r k : ℕ) → Refusing AtStep (readBelow memory c r k)
+  below-read : (c : Mem) (r k : ℕ) → Refusing AtStep (readBelow numberMemory c r k)
   unfolding refusalMeaning
   below-read c r k = refusing-require _ _ refl (cell-read c (r - k))
 
-  many-read : (c : Mem) (a n : ℕ) → Refusing AtStep (readMany memory c a n)
+  many-read : (c : Mem) (a n : ℕ) → Refusing AtStep (readMany numberMemory c a n)
   unfolding readMany
   many-read c a zero = passed
   many-read c a (suc n) = refusing-bind _ (cell-read c a) λ v. refusing-bind _ (many-read c (suc a) n) λ vs. passed
 
-  span-read : (c : Mem) (a n : ℕ) → Refusing AtStep (readSpan memory c a n)
+  span-read : (c : Mem) (a n : ℕ) → Refusing AtStep (readSpan numberMemory c a n)
   unfolding readSpan refusalMeaning
   span-read c a n = refusing-require _ _ refl (refusing-require _ _ refl (many-read c a n))
 
-  many-stored : (c : Mem) (a : ℕ) (vs : List ℕ) → Refusing AtStep (storeMany memory c a vs)
+  many-stored : (c : Mem) (a : ℕ) (vs : List ℕ) → Refusing AtStep (storeMany numberMemory c a vs)
   unfolding storeMany refusalMeaning
   many-stored c a [] = passed
   many-stored c a (v ∷ vs) =
@@ -130,7 +130,7 @@ module _ (memory : Memory ℕ) where
   -- The operation
 
   module _ (e : Environment) where
-    operated : (c : Class) (i : Instruction) (s : State memory) (o : Operands) → Refusing AtStep (operate memory e c i s o)
+    operated : (c : Class) (i : Instruction) (s : State numberMemory) (o : Operands) → Refusing AtStep (operate numberMemory e c i s o)
     unfolding operate refusalMeaning
     operated (field f) i s o = refusing-require _ _ refl (refusing-require _ _ refl passed)
     operated (equality f) i s o = passed
@@ -143,7 +143,7 @@ module _ (memory : Memory ℕ) where
     operated conditionalJump i s o = refusing-require _ _ refl (refusing-bind _ (valued _ _ _) λ b. passed)
     operated call i s o = refusing-require _ _ refl (refusing-bind _ (many-stored _ _ _) λ c. passed)
     operated return i s o =
-        refusing-bind _ (below-read (s .cells) (r9 memory s) 1) λ pc. refusing-bind _ (below-read (s .cells) (r9 memory s) 2) λ r. passed
+        refusing-bind _ (below-read (s .cells) (r9 numberMemory s) 1) λ pc. refusing-bind _ (below-read (s .cells) (r9 numberMemory s) 2) λ r. passed
     operated load i s o = refusing-require _ _ refl (refusing-require _ _ refl (refusing-bind _ (cell-read (s .cells) (fieldAdd (o .op0) (o .op1))) λ v. passed))
     operated store i s o = refusing-require _ _ refl (refusing-require _ _ refl (refusing-bind _ (many-stored _ _ _) λ c. passed))
     operated tapeLoad i s o = refusing-require _ _ refl (refusing-require _ _ refl (refusing-bind _ (many-stored _ _ _) λ c. passed))
@@ -152,13 +152,13 @@ module _ (memory : Memory ℕ) where
     operated end i s o = passed
     operated uncovered i s o = refusing-refused refl
 
-    fitted : (n : Next memory) → Refusing AtStep (capacity memory e n)
+    fitted : (n : Next numberMemory) → Refusing AtStep (capacity numberMemory e n)
     unfolding refusalMeaning
     fitted n = refusing-require _ _ refl passed
 
     -- Steps
 
-    stepped : (s : State memory) → Refusing AtStep (step memory e s)
+    stepped : (s : State numberMemory) → Refusing AtStep (step numberMemory e s)
     unfolding step
     stepped s =
         refusing-bind _ (fetched _ _) λ i.
@@ -166,13 +166,13 @@ module _ (memory : Memory ℕ) where
         refusing-bind _ (operated _ i s o) λ n.
         fitted n
 
-    guarded-rest : (t : MarkState memory) (c : Class) (i : Instruction) (s : State memory) (o : Operands) → RefusingGuarded AtStep (guardedRest memory e t c i s o)
+    guarded-rest : (t : MarkState markMemory) (c : Class) (i : Instruction) (s : State numberMemory) (o : Operands) → RefusingGuarded AtStep (guardedRest numberMemory markMemory e t c i s o)
     unfolding guardedRest
     guarded-rest t c i s o =
         refusing-after _ (operated c i s o) λ n.
         refusing-guard _ (refusing-after _ (fitted n) λ n. passed-guarded)
 
-    guarded-stepped : (q : GuardedState memory) → RefusingGuarded AtStep (guardedStep memory e q)
+    guarded-stepped : (q : GuardedState numberMemory markMemory) → RefusingGuarded AtStep (guardedStep numberMemory markMemory e q)
     unfolding guardedStep
     guarded-stepped q =
         refusing-after _ (fetched _ _) λ i.
@@ -194,28 +194,28 @@ module _ {S : Type 0} where
   finish-past (calls vs) clk s k h = refl
   finish-past (delegates vs) clk s k h = refl
 
-module _ (memory : Memory ℕ) (e : Environment) where
-  on-step-past : (s : State memory) {r : Result (Next memory)} (k : State memory → Ran (State memory)) → Refusing AtStep r
-      → ((t : State memory) → Past (k t .answer)) → Past (onStep memory s r k .answer)
+module _ (numberMemory markMemory : Memory ℕ) (e : Environment) where
+  on-step-past : (s : State numberMemory) {r : Result (Next numberMemory)} (k : State numberMemory → Ran (State numberMemory)) → Refusing AtStep r
+      → ((t : State numberMemory) → Past (k t .answer)) → Past (onStep numberMemory s r k .answer)
   unfolding meaning
   on-step-past s k (refusing-refused h) q = h
   on-step-past s k (passed {a = n}) q = finish-past (n .finish) (n .state .clk) (n .state) k (q (n .state))
 
-  pub run-past : (budget : ℕ) (s : State memory) → Past (run memory e budget s .answer)
+  pub run-past : (budget : ℕ) (s : State numberMemory) → Past (run numberMemory e budget s .answer)
   unfolding run meaning
   run-past zero s = refl
-  run-past (suc budget) s = on-step-past s (run memory e budget) (stepped memory e s) (run-past budget)
+  run-past (suc budget) s = on-step-past s (run numberMemory e budget) (stepped numberMemory markMemory e s) (run-past budget)
 
-  on-guarded-step-past : (q : GuardedState memory) {r : GuardedResult (GuardedNext memory)} (k : GuardedState memory → Ran (GuardedState memory)) → RefusingGuarded AtStep r
-      → ((t : GuardedState memory) → Past (k t .answer)) → Past (onGuardedStep memory q r k .answer)
+  on-guarded-step-past : (q : GuardedState numberMemory markMemory) {r : GuardedResult (GuardedNext numberMemory markMemory)} (k : GuardedState numberMemory markMemory → Ran (GuardedState numberMemory markMemory)) → RefusingGuarded AtStep r
+      → ((t : GuardedState numberMemory markMemory) → Past (k t .answer)) → Past (onGuardedStep numberMemory markMemory q r k .answer)
   unfolding meaning
   on-guarded-step-past q k (refused-guarded h) z = h
   on-guarded-step-past q k sink-guarded z = refl
   on-guarded-step-past q k (passed-guarded {a = n}) z =
-      let left : GuardedState memory = record { plain = n .next .state; marks = n .marks } in
+      let left : GuardedState numberMemory markMemory = record { plain = n .next .state; marks = n .marks } in
       finish-past (n .next .finish) (n .next .state .clk) left k (z left)
 
-  pub guarded-run-past : (budget : ℕ) (q : GuardedState memory) → Past (guardedRun memory e budget q .answer)
+  pub guarded-run-past : (budget : ℕ) (q : GuardedState numberMemory markMemory) → Past (guardedRun numberMemory markMemory e budget q .answer)
   unfolding guardedRun meaning
   guarded-run-past zero q = refl
-  guarded-run-past (suc budget) q = on-guarded-step-past q (guardedRun memory e budget) (guarded-stepped memory e q) (guarded-run-past budget)
+  guarded-run-past (suc budget) q = on-guarded-step-past q (guardedRun numberMemory markMemory e budget) (guarded-stepped numberMemory markMemory e q) (guarded-run-past budget)

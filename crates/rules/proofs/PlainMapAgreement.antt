@@ -8,8 +8,8 @@ use Rattle.rules.specs.declared.Refusal.the-variants.{NotInField, NotSma
 use Rattle.rules.specs.Numbers.{choose}
 use Rattle.rules.specs.Results.{Result, pass, require}
 use Rattle.rules.specs.Memory.{present}
-use Rattle.rules.specs.Cells.{Cells, put, Rising, cells}
-use Rattle.rules.specs.PlainMap.{PlainMap, mapPut, plainMap}
+use Rattle.rules.specs.Cells.{Cells, put, Rising, numberCells}
+use Rattle.rules.specs.PlainMap.{PlainMap, mapPut, numberMap}
 use Rattle.rules.specs.Opcodes.{Class, field, equality, small, complement, move, assert, rangeCheck, jump, conditionalJump, call, return, load, store, tapeLoad, tapeStore, contractCall, end, uncovered, classOf}
 use Rattle.rules.specs.Operands.{Operands}
 use Rattle.rules.specs.Step.{Environment, State, Next, slotValue, r9, read, readBelow, readMany, readSpan, storeMany, operate, fits, capacity, step, Ran, onStep, run}
@@ -31,23 +31,23 @@ same-put {c} {m} h a v =
       size = count-put 0 c a v (h .rising) ∙ (rw (h .same a, h .size));
     }
 
-same-read : {c : Cells ℕ} {m : PlainMap ℕ} → SameMemory c m → (a : ℕ) → read (cells ℕ) c a ≡ read (plainMap ℕ) m a
-same-read h a = ap (slotValue (cells ℕ)) (h .same a)
+same-read : {c : Cells ℕ} {m : PlainMap ℕ} → SameMemory c m → (a : ℕ) → read numberCells c a ≡ read numberMap m a
+same-read h a = ap (slotValue numberCells) (h .same a)
 
-same-below : {c : Cells ℕ} {m : PlainMap ℕ} → SameMemory c m → (r k : ℕ) → readBelow (cells ℕ) c r k ≡ readBelow (plainMap ℕ) m r k
+same-below : {c : Cells ℕ} {m : PlainMap ℕ} → SameMemory c m → (r k : ℕ) → readBelow numberCells c r k ≡ readBelow numberMap m r k
 same-below h r k = ap (require (leb k r) CellAbsent) (same-read h (r - k))
 
-same-many : {c : Cells ℕ} {m : PlainMap ℕ} → SameMemory c m → (a n : ℕ) → readMany (cells ℕ) c a n ≡ readMany (plainMap ℕ) m a n
+same-many : {c : Cells ℕ} {m : PlainMap ℕ} → SameMemory c m → (a n : ℕ) → readMany numberCells c a n ≡ readMany numberMap m a n
 unfolding readMany
 same-many h a zero = refl
 same-many h a (suc n) = rw (same-read h a, same-many h (suc a) n)
 
-same-span : {c : Cells ℕ} {m : PlainMap ℕ} → SameMemory c m → (a n : ℕ) → readSpan (cells ℕ) c a n ≡ readSpan (plainMap ℕ) m a n
+same-span : {c : Cells ℕ} {m : PlainMap ℕ} → SameMemory c m → (a n : ℕ) → readSpan numberCells c a n ≡ readSpan numberMap m a n
 unfolding readSpan
 same-span h a n = rw (same-many h a n)
 
 same-store : {c : Cells ℕ} {m : PlainMap ℕ} → SameMemory c m → (a : ℕ) (vs : List ℕ)
-    → Both SameMemory (storeMany (cells ℕ) c a vs) (storeMany (plainMap ℕ) m a vs)
+    → Both SameMemory (storeMany numberCells c a vs) (storeMany numberMap m a vs)
 unfolding storeMany
 same-store h a [] = passed h
 same-store h a (v ∷ vs) =
@@ -58,10 +58,10 @@ same-store h a (v ∷ vs) =
 
 -- A state and the same state over a map: what is no cell is one value
 
-pub same-with : {s : State (cells ℕ)} {m : PlainMap ℕ} → SameMemory (s .cells) m → SameState s (withMap s m)
+pub same-with : {s : State numberCells} {m : PlainMap ℕ} → SameMemory (s .cells) m → SameState s (withMap s m)
 same-with h = record { registers = refl; pc = refl; clk = refl; cells = h; tape = refl; output = refl; written = refl }
 
-pub with-same : {s : State (cells ℕ)} {t : State (plainMap ℕ)} → SameState s t → withMap s (t .cells) ≡ t
+pub with-same : {s : State numberCells} {t : State numberMap} → SameState s t → withMap s (t .cells) ≡ t
 with-same {s} {t} h =
     λ i.
     record {
@@ -74,11 +74,11 @@ with-same {s} {t} h =
       written = h .written i;
     }
 
-module _ (e : Environment) (i : Instruction) (s : State (cells ℕ)) (m : PlainMap ℕ) (o : Operands) (h : SameMemory (s .cells) m) where
-  moved : {n : Next (cells ℕ)} {k : Next (plainMap ℕ)} → SameState (n .state) (k .state) → n .finish ≡ k .finish → Both SameNext (pass n) (pass k)
+module _ (e : Environment) (i : Instruction) (s : State numberCells) (m : PlainMap ℕ) (o : Operands) (h : SameMemory (s .cells) m) where
+  moved : {n : Next numberCells} {k : Next numberMap} → SameState (n .state) (k .state) → n .finish ≡ k .finish → Both SameNext (pass n) (pass k)
   moved x y = passed (record { state = x; finish = y })
 
-  pub same-operate : (c : Class) → Both SameNext (operate (cells ℕ) e c i s o) (operate (plainMap ℕ) e c i (withMap s m) o)
+  pub same-operate : (c : Class) → Both SameNext (operate numberCells e c i s o) (operate numberMap e c i (withMap s m) o)
   unfolding operate
   same-operate (field f) = both-require NotInField refl (both-require NotInField refl (moved (same-with h) refl))
   same-operate (equality f) = moved (same-with h) refl
@@ -91,8 +91,8 @@ module _ (e : Environment) (i : Instruction) (s : State (cells ℕ)) (m : PlainM
   same-operate conditionalJump = both-require NotSmall refl (both-bind-equal _ _ refl λ b. moved (same-with h) refl)
   same-operate call = both-require StoreFault refl (both-bind _ _ (same-store h _ _) λ c d k. moved (same-with k) refl)
   same-operate return =
-      both-bind-equal _ _ (same-below h (r9 (cells ℕ) s) 1) λ pc.
-      both-bind-equal _ _ (same-below h (r9 (cells ℕ) s) 2) λ r.
+      both-bind-equal _ _ (same-below h (r9 numberCells s) 1) λ pc.
+      both-bind-equal _ _ (same-below h (r9 numberCells s) 2) λ r.
       moved (same-with h) refl
   same-operate load =
       both-require NotInField refl (both-require NotInField refl (both-bind-equal _ _ (same-read h _) λ v. moved (same-with h) refl))
@@ -109,15 +109,15 @@ module _ (e : Environment) (i : Instruction) (s : State (cells ℕ)) (m : PlainM
   same-operate end = moved (same-with h) refl
   same-operate uncovered = both-refused
 
-same-fits : (e : Environment) {s : State (cells ℕ)} {t : State (plainMap ℕ)} → SameState s t → fits (cells ℕ) e s ≡ fits (plainMap ℕ) e t
+same-fits : (e : Environment) {s : State numberCells} {t : State numberMap} → SameState s t → fits numberCells e s ≡ fits numberMap e t
 same-fits e {s} {t} h = rw (h .cells .size, h .tape, h .output)
 
-pub same-capacity : (e : Environment) {n : Next (cells ℕ)} {k : Next (plainMap ℕ)} → SameNext n k
-    → Both SameNext (capacity (cells ℕ) e n) (capacity (plainMap ℕ) e k)
+pub same-capacity : (e : Environment) {n : Next numberCells} {k : Next numberMap} → SameNext n k
+    → Both SameNext (capacity numberCells e n) (capacity numberMap e k)
 same-capacity e h = both-require NoCapacity (same-fits e (h .state)) (passed h)
 
-same-step-with : (e : Environment) (s : State (cells ℕ)) (m : PlainMap ℕ) → SameMemory (s .cells) m
-    → Both SameNext (step (cells ℕ) e s) (step (plainMap ℕ) e (withMap s m))
+same-step-with : (e : Environment) (s : State numberCells) (m : PlainMap ℕ) → SameMemory (s .cells) m
+    → Both SameNext (step numberCells e s) (step numberMap e (withMap s m))
 unfolding step
 same-step-with e s m h =
     both-bind-equal _ _ refl λ i.
@@ -125,19 +125,19 @@ same-step-with e s m h =
     both-bind _ _ (same-operate e i s m o h (classOf (i .opcode))) λ n k q.
     same-capacity e q
 
-pub same-step : (e : Environment) {s : State (cells ℕ)} {t : State (plainMap ℕ)} → SameState s t
-    → Both SameNext (step (cells ℕ) e s) (step (plainMap ℕ) e t)
-same-step e {s} {t} h = subst (λ t. Both SameNext (step (cells ℕ) e s) (step (plainMap ℕ) e t)) (with-same h) (same-step-with e s (t .cells) (h .cells))
+pub same-step : (e : Environment) {s : State numberCells} {t : State numberMap} → SameState s t
+    → Both SameNext (step numberCells e s) (step numberMap e t)
+same-step e {s} {t} h = subst (λ t. Both SameNext (step numberCells e s) (step numberMap e t)) (with-same h) (same-step-with e s (t .cells) (h .cells))
 
-same-on-step : {s : State (cells ℕ)} {t : State (plainMap ℕ)} {x : Result (Next (cells ℕ))} {y : Result (Next (plainMap ℕ))}
-    (k : State (cells ℕ) → Ran (State (cells ℕ))) (l : State (plainMap ℕ) → Ran (State (plainMap ℕ))) → SameState s t → Both SameNext x y
-    → ((s : State (cells ℕ)) (t : State (plainMap ℕ)) → SameState s t → BothRan SameState (k s) (l t))
-    → BothRan SameState (onStep (cells ℕ) s x k) (onStep (plainMap ℕ) t y l)
+same-on-step : {s : State numberCells} {t : State numberMap} {x : Result (Next numberCells)} {y : Result (Next numberMap)}
+    (k : State numberCells → Ran (State numberCells)) (l : State numberMap → Ran (State numberMap)) → SameState s t → Both SameNext x y
+    → ((s : State numberCells) (t : State numberMap) → SameState s t → BothRan SameState (k s) (l t))
+    → BothRan SameState (onStep numberCells s x k) (onStep numberMap t y l)
 same-on-step k l h both-refused q = record { answer = refl; steps = refl; state = h }
 same-on-step k l h (passed r) q = both-finish SameState _ _ k l (r .finish) (r .state .clk) (r .state) (q _ _ (r .state))
 
-pub same-run : (e : Environment) (budget : ℕ) {s : State (cells ℕ)} {t : State (plainMap ℕ)} → SameState s t
-    → BothRan SameState (run (cells ℕ) e budget s) (run (plainMap ℕ) e budget t)
+pub same-run : (e : Environment) (budget : ℕ) {s : State numberCells} {t : State numberMap} → SameState s t
+    → BothRan SameState (run numberCells e budget s) (run numberMap e budget t)
 unfolding run
 same-run e zero h = record { answer = refl; steps = refl; state = h }
 same-run e (suc budget) h = same-on-step _ _ h (same-step e h) (λ s t q. same-run e budget q)

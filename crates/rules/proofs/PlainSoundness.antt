@@ -11,7 +11,7 @@ use Rattle.rules.specs.declared.Instruction.{Instruction}
 use Rattle.rules.specs.Numbers.{p, heapEnd, choose}
 use Rattle.rules.specs.Results.{Result}
 use Rattle.rules.specs.Memory.{present}
-use Rattle.rules.specs.Cells.{Cells, get, put, count, cells}
+use Rattle.rules.specs.Cells.{Cells, get, put, count, numberCells}
 use Rattle.rules.specs.Opcodes.{Class, field, equality, small, complement, move, assert, rangeCheck, jump, conditionalJump, call, return, load, store, tapeLoad, tapeStore, contractCall, end, uncovered, classOf}
 use Rattle.rules.specs.Operands.{Operands}
 use Rattle.rules.specs.Step.{Environment, State, Next, storeMany, writesRegister, writesCells, operate, capacity, step, Ran, onStep, run}
@@ -39,7 +39,7 @@ sound-put {c} {a} {v} l u h =
     storable x w true e = let z : v ≡ w = cc in subst (λ y. y ≤ p) z u
     storable x w false e = h .storable x w e
 
-pub sound-store : {c : Cells ℕ} → SoundCells c → (a : ℕ) (vs : List ℕ) → Passing SoundCells (storeMany (cells ℕ) c a vs)
+pub sound-store : {c : Cells ℕ} → SoundCells c → (a : ℕ) (vs : List ℕ) → Passing SoundCells (storeMany numberCells c a vs)
 unfolding storeMany
 sound-store h a [] = passed h
 sound-store h a (v ∷ vs) =
@@ -49,21 +49,21 @@ sound-store h a (v ∷ vs) =
     sound-store (sound-put (ltb-true _ _ l) (leb-true _ _ u) h) (suc a) vs
 
 -- what a step keeps before the test of the capacities
-pub record Kept (e : Environment) (s : State (cells ℕ)) : Type 0 where
+pub record Kept (e : Environment) (s : State numberCells) : Type 0 where
   pub ten : length (s .registers) ≡ 10
   pub cells : SoundCells (s .cells)
   pub writtenFits : length (s .output) ≤ e .outputCapacity → length (s .written) ≤ e .outputCapacity
   pub first : take (length (s .output)) (s .written) ≡ s .output
 
-module _ (e : Environment) (i : Instruction) (s : State (cells ℕ)) (o : Operands) (h : Sound e s) where
-  register-kept : (pc r v : ℕ) → Kept e (writesRegister (cells ℕ) s pc r v .state)
+module _ (e : Environment) (i : Instruction) (s : State numberCells) (o : Operands) (h : Sound e s) where
+  register-kept : (pc r v : ℕ) → Kept e (writesRegister numberCells s pc r v .state)
   register-kept pc r v =
       record { ten = length-set (s .registers) r v ∙ h .ten; cells = h .cells; writtenFits = λ _. h .writtenFits; first = h .first }
 
-  cells-kept : (pc : ℕ) (c : Cells ℕ) → SoundCells c → Kept e (writesCells (cells ℕ) s pc c .state)
+  cells-kept : (pc : ℕ) (c : Cells ℕ) → SoundCells c → Kept e (writesCells numberCells s pc c .state)
   cells-kept pc c k = record { ten = h .ten; cells = k; writtenFits = λ _. h .writtenFits; first = h .first }
 
-  pub operate-keeps : (c : Class) → Passing (λ n. Kept e (n .state)) (operate (cells ℕ) e c i s o)
+  pub operate-keeps : (c : Class) → Passing (λ n. Kept e (n .state)) (operate numberCells e c i s o)
   unfolding operate
   operate-keeps (field f) = passing-require _ λ a. passing-require _ λ b. passed (register-kept _ _ _)
   operate-keeps (equality f) = passed (register-kept _ _ _)
@@ -95,7 +95,7 @@ module _ (e : Environment) (i : Instruction) (s : State (cells ℕ)) (o : Operan
   operate-keeps end = passed (record { ten = h .ten; cells = h .cells; writtenFits = λ _. h .writtenFits; first = h .first })
   operate-keeps uncovered = passing-refused
 
-pub capacity-sound : (e : Environment) (n : Next (cells ℕ)) → Kept e (n .state) → Passing (λ n. Sound e (n .state)) (capacity (cells ℕ) e n)
+pub capacity-sound : (e : Environment) (n : Next numberCells) → Kept e (n .state) → Passing (λ n. Sound e (n .state)) (capacity numberCells e n)
 capacity-sound e n k =
     passing-require _ λ t.
     let s = n .state in
@@ -113,14 +113,14 @@ capacity-sound e n k =
     })
 
 -- the output is no longer than what is written
-pub output-within : {e : Environment} {s : State (cells ℕ)} → Sound e s → length (s .output) ≤ length (s .written)
+pub output-within : {e : Environment} {s : State numberCells} → Sound e s → length (s .output) ≤ length (s .written)
 output-within {s = s} h =
     let l : length (take (length (s .output)) (s .written)) ≡ length (s .output) = ap length (h .first) in
     omega (arith, length-take (length (s .output)) (s .written))
 
 -- Step and run
 
-pub step-sound : (e : Environment) (s : State (cells ℕ)) → Sound e s → Passing (λ n. Sound e (n .state)) (step (cells ℕ) e s)
+pub step-sound : (e : Environment) (s : State numberCells) → Sound e s → Passing (λ n. Sound e (n .state)) (step numberCells e s)
 unfolding step
 step-sound e s h =
     passing-any _ _ λ i.
@@ -128,12 +128,12 @@ step-sound e s h =
     passing-bind _ (operate-keeps e i s o h (classOf (i .opcode))) λ n k.
     capacity-sound e n k
 
-on-step-sound : (e : Environment) (s : State (cells ℕ)) {r : Result (Next (cells ℕ))} (k : State (cells ℕ) → Ran (State (cells ℕ))) → Sound e s
-    → Passing (λ n. Sound e (n .state)) r → ((t : State (cells ℕ)) → Sound e t → Sound e (k t .state)) → Sound e (onStep (cells ℕ) s r k .state)
+on-step-sound : (e : Environment) (s : State numberCells) {r : Result (Next numberCells)} (k : State numberCells → Ran (State numberCells)) → Sound e s
+    → Passing (λ n. Sound e (n .state)) r → ((t : State numberCells) → Sound e t → Sound e (k t .state)) → Sound e (onStep numberCells s r k .state)
 on-step-sound e s k h passing-refused q = h
 on-step-sound e s k h (passed {a = n} a) q = finish-keeps (Sound e) (n .finish) (n .state .clk) (n .state) k a (q (n .state) a)
 
-pub run-sound : (e : Environment) (budget : ℕ) (s : State (cells ℕ)) → Sound e s → Sound e (run (cells ℕ) e budget s .state)
+pub run-sound : (e : Environment) (budget : ℕ) (s : State numberCells) → Sound e s → Sound e (run numberCells e budget s .state)
 unfolding run
 run-sound e zero s h = h
-run-sound e (suc budget) s h = on-step-sound e s (run (cells ℕ) e budget) h (step-sound e s h) (run-sound e budget)
+run-sound e (suc budget) s h = on-step-sound e s (run numberCells e budget) h (step-sound e s h) (run-sound e budget)

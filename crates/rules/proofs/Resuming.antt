@@ -11,7 +11,7 @@ use borrow.Author.Tests.{eqb-true, lt-ltb, le-leb, eq-eqb}
 use Rattle.rules.specs.declared.Instruction.{Instruction}
 use Rattle.rules.specs.Numbers.{p, heapEnd, clockEnd, cellLimit, valueLimit}
 use Rattle.rules.specs.Memory.{present}
-use Rattle.rules.specs.Cells.{Cells, none, cell, get, count, addresses, contents, zipped, RisingFrom, cells}
+use Rattle.rules.specs.Cells.{Cells, none, cell, get, count, addresses, contents, zipped, RisingFrom, numberCells, markCells}
 use Rattle.rules.specs.Step.{State, isStorable, overlay}
 use Rattle.rules.specs.Guarded.{GuardedState}
 use Rattle.rules.specs.Entry.{Snapshot, GuardedSnapshot, lowBits, wordOfBits, usedNumbers, markedCells, every, risingFrom, markedBelow, plainEntry, markedNumbersBelow, marksEntry, guardedEntry, environment, stateOf, guardedStateOf, snapshotAfter, guardedSnapshotAfter}
@@ -47,7 +47,7 @@ same-count k c e = sym (length-addresses k) ∙ ap length e ∙ length-addresses
 
 -- The plain snapshot
 
-module _ (program : List Instruction) (s : Snapshot) (t : State (cells ℕ)) (passes : plainEntry s ≡ true) (h : Sound (environment program s) t) where
+module _ (program : List Instruction) (s : Snapshot) (t : State numberCells) (passes : plainEntry s ≡ true) (h : Sound (environment program s) t) where
   same-length : length (s .numbers) ≡ length (s .addresses)
   unfolding plainEntry
   same-length = eqb-true _ _ (all-at _ passes 4)
@@ -134,7 +134,7 @@ module _ (program : List Instruction) (s : Snapshot) (t : State (cells ℕ)) (pa
 module _
     (program : List Instruction)
     (g : GuardedSnapshot)
-    (q : GuardedState (cells ℕ))
+    (q : GuardedState numberCells markCells)
     (passes : guardedEntry g ≡ true)
     (h : GuardedSound (environment program (g .plain)) q)
   where

@@ -71,63 +71,63 @@ module _ {S : Type 0} where
 
 -- Whole runs
 
-module _ (memory : Memory ℕ) (e : Environment) where
-  step-splits : (s : State memory) (x : Result (Next memory)) (k whole rest : State memory → Ran (State memory))
-      → ((s : State memory) → k s .answer ≡ Paused → whole s ≡ joined (k s) (rest (k s .state)))
-      → onStep memory s x k .answer ≡ Paused
-      → onStep memory s x whole ≡ joined (onStep memory s x k) (rest (onStep memory s x k .state))
+module _ (numberMemory markMemory : Memory ℕ) (e : Environment) where
+  step-splits : (s : State numberMemory) (x : Result (Next numberMemory)) (k whole rest : State numberMemory → Ran (State numberMemory))
+      → ((s : State numberMemory) → k s .answer ≡ Paused → whole s ≡ joined (k s) (rest (k s .state)))
+      → onStep numberMemory s x k .answer ≡ Paused
+      → onStep numberMemory s x whole ≡ joined (onStep numberMemory s x k) (rest (onStep numberMemory s x k .state))
   step-splits s (refuse f) k whole rest h a = absurd (refused-not-paused f a)
   step-splits s (pass n) k whole rest h a = finish-splits (n .finish) (n .state .clk) (n .state) k whole rest h a
 
-  pub run-splits : (m n : ℕ) (s : State memory) → run memory e m s .answer ≡ Paused
-      → run memory e (m + n) s ≡ joined (run memory e m s) (run memory e n (run memory e m s .state))
+  pub run-splits : (m n : ℕ) (s : State numberMemory) → run numberMemory e m s .answer ≡ Paused
+      → run numberMemory e (m + n) s ≡ joined (run numberMemory e m s) (run numberMemory e n (run numberMemory e m s .state))
   unfolding run
-  run-splits zero n s a = ap (λ k. run memory e k s) (zero-add n) ∙ whole-run (run memory e n s)
+  run-splits zero n s a = ap (λ k. run numberMemory e k s) (zero-add n) ∙ whole-run (run numberMemory e n s)
   run-splits (suc m) n s a =
-      ap (λ k. run memory e k s) (suc-add m n)
-      ∙ step-splits s (step memory e s) (run memory e m) (run memory e (m + n)) (run memory e n) (run-splits m n) a
+      ap (λ k. run numberMemory e k s) (suc-add m n)
+      ∙ step-splits s (step numberMemory e s) (run numberMemory e m) (run numberMemory e (m + n)) (run numberMemory e n) (run-splits m n) a
 
-  step-goes-on : (s : State memory) (x : Result (Next memory)) (k : State memory → Ran (State memory))
-      → ((s : State memory) → s .clk < clockEnd → k s .answer ≡ Paused → k s .state .clk < clockEnd)
-      → onStep memory s x k .answer ≡ Paused → onStep memory s x k .state .clk < clockEnd
+  step-goes-on : (s : State numberMemory) (x : Result (Next numberMemory)) (k : State numberMemory → Ran (State numberMemory))
+      → ((s : State numberMemory) → s .clk < clockEnd → k s .answer ≡ Paused → k s .state .clk < clockEnd)
+      → onStep numberMemory s x k .answer ≡ Paused → onStep numberMemory s x k .state .clk < clockEnd
   step-goes-on s (refuse f) k h a = absurd (refused-not-paused f a)
   step-goes-on s (pass n) k h a = finish-goes-on (λ t. t .clk < clockEnd) (n .finish) (n .state .clk) (n .state) k (h (n .state)) a
 
-  pub run-goes-on : (m : ℕ) (s : State memory) → s .clk < clockEnd → run memory e m s .answer ≡ Paused → run memory e m s .state .clk < clockEnd
+  pub run-goes-on : (m : ℕ) (s : State numberMemory) → s .clk < clockEnd → run numberMemory e m s .answer ≡ Paused → run numberMemory e m s .state .clk < clockEnd
   unfolding run
   run-goes-on zero s l a = l
-  run-goes-on (suc m) s l a = step-goes-on s (step memory e s) (run memory e m) (run-goes-on m) a
+  run-goes-on (suc m) s l a = step-goes-on s (step numberMemory e s) (run numberMemory e m) (run-goes-on m) a
 
-  guarded-step-splits : (q : GuardedState memory) (x : GuardedResult (GuardedNext memory)) (k whole rest : GuardedState memory → Ran (GuardedState memory))
-      → ((q : GuardedState memory) → k q .answer ≡ Paused → whole q ≡ joined (k q) (rest (k q .state)))
-      → onGuardedStep memory q x k .answer ≡ Paused
-      → onGuardedStep memory q x whole ≡ joined (onGuardedStep memory q x k) (rest (onGuardedStep memory q x k .state))
+  guarded-step-splits : (q : GuardedState numberMemory markMemory) (x : GuardedResult (GuardedNext numberMemory markMemory)) (k whole rest : GuardedState numberMemory markMemory → Ran (GuardedState numberMemory markMemory))
+      → ((q : GuardedState numberMemory markMemory) → k q .answer ≡ Paused → whole q ≡ joined (k q) (rest (k q .state)))
+      → onGuardedStep numberMemory markMemory q x k .answer ≡ Paused
+      → onGuardedStep numberMemory markMemory q x whole ≡ joined (onGuardedStep numberMemory markMemory q x k) (rest (onGuardedStep numberMemory markMemory q x k .state))
   guarded-step-splits q (refuses f) k whole rest h a = absurd (refused-not-paused f a)
   guarded-step-splits q sink k whole rest h a = absurd (at-sink a)
   guarded-step-splits q (passes n) k whole rest h a =
       finish-splits (n .next .finish) (n .next .state .clk) (record { plain = n .next .state; marks = n .marks }) k whole rest h a
 
-  pub guarded-run-splits : (m n : ℕ) (q : GuardedState memory) → guardedRun memory e m q .answer ≡ Paused
-      → guardedRun memory e (m + n) q ≡ joined (guardedRun memory e m q) (guardedRun memory e n (guardedRun memory e m q .state))
+  pub guarded-run-splits : (m n : ℕ) (q : GuardedState numberMemory markMemory) → guardedRun numberMemory markMemory e m q .answer ≡ Paused
+      → guardedRun numberMemory markMemory e (m + n) q ≡ joined (guardedRun numberMemory markMemory e m q) (guardedRun numberMemory markMemory e n (guardedRun numberMemory markMemory e m q .state))
   unfolding guardedRun
-  guarded-run-splits zero n q a = ap (λ k. guardedRun memory e k q) (zero-add n) ∙ whole-run (guardedRun memory e n q)
+  guarded-run-splits zero n q a = ap (λ k. guardedRun numberMemory markMemory e k q) (zero-add n) ∙ whole-run (guardedRun numberMemory markMemory e n q)
   guarded-run-splits (suc m) n q a =
-      ap (λ k. guardedRun memory e k q) (suc-add m n)
-      ∙ guarded-step-splits q (guardedStep memory e q) (guardedRun memory e m) (guardedRun memory e (m + n)) (guardedRun memory e n)
+      ap (λ k. guardedRun numberMemory markMemory e k q) (suc-add m n)
+      ∙ guarded-step-splits q (guardedStep numberMemory markMemory e q) (guardedRun numberMemory markMemory e m) (guardedRun numberMemory markMemory e (m + n)) (guardedRun numberMemory markMemory e n)
       (guarded-run-splits m n)
       a
 
-  guarded-step-goes-on : (q : GuardedState memory) (x : GuardedResult (GuardedNext memory)) (k : GuardedState memory → Ran (GuardedState memory))
-      → ((q : GuardedState memory) → q .plain .clk < clockEnd → k q .answer ≡ Paused → k q .state .plain .clk < clockEnd)
-      → onGuardedStep memory q x k .answer ≡ Paused → onGuardedStep memory q x k .state .plain .clk < clockEnd
+  guarded-step-goes-on : (q : GuardedState numberMemory markMemory) (x : GuardedResult (GuardedNext numberMemory markMemory)) (k : GuardedState numberMemory markMemory → Ran (GuardedState numberMemory markMemory))
+      → ((q : GuardedState numberMemory markMemory) → q .plain .clk < clockEnd → k q .answer ≡ Paused → k q .state .plain .clk < clockEnd)
+      → onGuardedStep numberMemory markMemory q x k .answer ≡ Paused → onGuardedStep numberMemory markMemory q x k .state .plain .clk < clockEnd
   guarded-step-goes-on q (refuses f) k h a = absurd (refused-not-paused f a)
   guarded-step-goes-on q sink k h a = absurd (at-sink a)
   guarded-step-goes-on q (passes n) k h a =
-      let left : GuardedState memory = record { plain = n .next .state; marks = n .marks } in
+      let left : GuardedState numberMemory markMemory = record { plain = n .next .state; marks = n .marks } in
       finish-goes-on (λ t. t .plain .clk < clockEnd) (n .next .finish) (n .next .state .clk) left k (h left) a
 
-  pub guarded-run-goes-on : (m : ℕ) (q : GuardedState memory) → q .plain .clk < clockEnd → guardedRun memory e m q .answer ≡ Paused
-      → guardedRun memory e m q .state .plain .clk < clockEnd
+  pub guarded-run-goes-on : (m : ℕ) (q : GuardedState numberMemory markMemory) → q .plain .clk < clockEnd → guardedRun numberMemory markMemory e m q .answer ≡ Paused
+      → guardedRun numberMemory markMemory e m q .state .plain .clk < clockEnd
   unfolding guardedRun
   guarded-run-goes-on zero q l a = l
-  guarded-run-goes-on (suc m) q l a = guarded-step-goes-on q (guardedStep memory e q) (guardedRun memory e m) (guarded-run-goes-on m) a
+  guarded-run-goes-on (suc m) q l a = guarded-step-goes-on q (guardedStep numberMemory markMemory e q) (guardedRun numberMemory markMemory e m) (guarded-run-goes-on m) a

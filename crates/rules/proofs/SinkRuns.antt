@@ -10,7 +10,7 @@ use Rattle.rules.specs.declared.Instruction.{Instruction}
 use Rattle.rules.specs.declared.Answer.the-variants.{MarkedSink}
 use Rattle.rules.specs.Numbers.{clockEnd}
 use Rattle.rules.specs.Results.{Result, refuse, pass, GuardedResult, refuses, sink, passes}
-use Rattle.rules.specs.Cells.{cells}
+use Rattle.rules.specs.Cells.{numberCells, markCells}
 use Rattle.rules.specs.Opcodes.{Class, field, equality, small, complement, move, assert, rangeCheck, jump, conditionalJump, call, return, load, store, tapeLoad, tapeStore, contractCall, end, uncovered, classOf}
 use Rattle.rules.specs.Operands.{Operands}
 use Rattle.rules.specs.Step.{Environment, State, Finish, goesOn, ends, calls, delegates, Next, step, Ran, afterStep, onClock, onFinish}
@@ -19,16 +19,16 @@ use Rattle.rules.specs.MarkRules.{Place, Marking, MarkedAfter}
 use Rattle.rules.specs.SinkRules.{InstructionRead, ReachesUse, AcceptedStep, Comes, start, onward}
 use Rattle.rules.proofs.ResultLaws.{pass-injective, after-passes, guard-passes}
 use Rattle.rules.proofs.DecodedRegisters.{AllInRange, fetch-in-range}
-use Rattle.rules.proofs.GuardedBesidePlain.{Beside, at-sink, refused, passed, step-beside}
+use Rattle.rules.proofs.GuardedBesidePlain.{Beside, at-sink, beside-refused, passed, step-beside}
 use Rattle.rules.proofs.MarksFollow.{markingOf, marks-exact}
 use Rattle.rules.proofs.SinksExact.{use-stops, stop-uses}
 
-abbrev at : State (cells ℕ) → MarkState (cells ℕ) → GuardedState (cells ℕ)
+abbrev at : State numberCells → MarkState markCells → GuardedState numberCells markCells
 at s t = record { plain = s; marks = t }
 
 -- the registers' marks stay ten
-marks-length : (t : MarkState (cells ℕ)) (c : Class) (i : Instruction) (s : State (cells ℕ)) (o : Operands)
-    → length (marksAfter (cells ℕ) t c i s o .registers) ≡ length (t .registers)
+marks-length : (t : MarkState markCells) (c : Class) (i : Instruction) (s : State numberCells) (o : Operands)
+    → length (marksAfter numberCells markCells t c i s o .registers) ≡ length (t .registers)
 unfolding marksAfter
 marks-length t (field f) i s o = length-set (t .registers) (o .dst) _
 marks-length t (equality f) i s o = length-set (t .registers) (o .dst) _
@@ -50,16 +50,16 @@ marks-length t end i s o = refl
 marks-length t uncovered i s o = refl
 
 -- An accepted guarded step: its instruction, its operands, its marks
-pub record Stepped (e : Environment) (q : GuardedState (cells ℕ)) (n : GuardedNext (cells ℕ)) : Type 0 where
+pub record Stepped (e : Environment) (q : GuardedState numberCells markCells) (n : GuardedNext numberCells markCells) : Type 0 where
   pub instruction : Instruction
   pub operands : Operands
   pub fetched : InstructionRead e (q .plain) instruction operands
-  pub marks : n .marks ≡ marksAfter (cells ℕ) (q .marks) (classOf (instruction .opcode)) instruction (q .plain) operands
+  pub marks : n .marks ≡ marksAfter numberCells markCells (q .marks) (classOf (instruction .opcode)) instruction (q .plain) operands
 
 passes-injective : {A : Type 0} {a b : A} → passes a ≡ passes b → a ≡ b
 passes-injective h = cc
 
-stepped : (e : Environment) (q : GuardedState (cells ℕ)) {n : GuardedNext (cells ℕ)} → guardedStep (cells ℕ) e q ≡ passes n → Stepped e q n
+stepped : (e : Environment) (q : GuardedState numberCells markCells) {n : GuardedNext numberCells markCells} → guardedStep numberCells markCells e q ≡ passes n → Stepped e q n
 unfolding guardedStep guardedRest
 stepped e q {n} h =
     let x = after-passes _ _ h in
@@ -72,10 +72,10 @@ stepped e q {n} h =
       instruction = x .0;
       operands = y .0;
       fetched = record { fetched = x .1; read = y .1 };
-      marks = ap (λ (m : GuardedNext (cells ℕ)). m .marks) (sym (passes-injective (w .2)));
+      marks = ap (λ (m : GuardedNext numberCells markCells). m .marks) (sym (passes-injective (w .2)));
     }
 
-same-fetched : {e : Environment} {s : State (cells ℕ)} {i j : Instruction} {o u : Operands} → InstructionRead e s i o → InstructionRead e s j u → (i ≡ j) × (o ≡ u)
+same-fetched : {e : Environment} {s : State numberCells} {i j : Instruction} {o u : Operands} → InstructionRead e s i o → InstructionRead e s j u → (i ≡ j) × (o ≡ u)
 same-fetched {e} {s} {i} {j} {o} {u} f g =
     let a : i ≡ j = pass-injective (sym (f .fetched) ∙ g .fetched) in
     (a, pass-injective (sym (f .read) ∙ rw (← a) at (g .read)))
@@ -85,42 +85,42 @@ pointwise h = λ j x. h x j
 
 module _ (e : Environment) (inRange : AllInRange (e .program)) where
   -- the marks of an accepted step, by the rules
-  step-marks : (s : State (cells ℕ)) (t : MarkState (cells ℕ)) → length (t .registers) ≡ 10 → {i : Instruction} {o : Operands} → InstructionRead e s i o
+  step-marks : (s : State numberCells) (t : MarkState markCells) → length (t .registers) ≡ 10 → {i : Instruction} {o : Operands} → InstructionRead e s i o
       → (x : Place) (b : Bool) → MarkedAfter (markingOf t) i s o (i .opcode) x b
-      → markingOf (marksAfter (cells ℕ) t (classOf (i .opcode)) i s o) x ≡ b
+      → markingOf (marksAfter numberCells markCells t (classOf (i .opcode)) i s o) x ≡ b
   step-marks s t ten {i} {o} f x b h =
       marks-exact t i o (e .psp) (s .registers) ten (fetch-in-range (e .program) (s .pc) inRange (f .fetched)) s (f .read) x b .0 h
 
-  marks-step : (s : State (cells ℕ)) (t : MarkState (cells ℕ)) → length (t .registers) ≡ 10 → {i : Instruction} {o : Operands} → InstructionRead e s i o
-      → (x : Place) → MarkedAfter (markingOf t) i s o (i .opcode) x (markingOf (marksAfter (cells ℕ) t (classOf (i .opcode)) i s o) x)
+  marks-step : (s : State numberCells) (t : MarkState markCells) → length (t .registers) ≡ 10 → {i : Instruction} {o : Operands} → InstructionRead e s i o
+      → (x : Place) → MarkedAfter (markingOf t) i s o (i .opcode) x (markingOf (marksAfter numberCells markCells t (classOf (i .opcode)) i s o) x)
   marks-step s t ten {i} {o} f x =
       marks-exact t i o (e .psp) (s .registers) ten (fetch-in-range (e .program) (s .pc) inRange (f .fetched)) s (f .read) x _ .1 refl
 
-  stepped-length : (q : GuardedState (cells ℕ)) {n : GuardedNext (cells ℕ)} → Stepped e q n → length (q .marks .registers) ≡ 10
+  stepped-length : (q : GuardedState numberCells markCells) {n : GuardedNext numberCells markCells} → Stepped e q n → length (q .marks .registers) ≡ 10
       → length (n .marks .registers) ≡ 10
-  stepped-length q w ten = ap (λ (t : MarkState (cells ℕ)). length (t .registers)) (w .marks) ∙ (marks-length (q .marks) _ _ _ _ ∙ ten)
+  stepped-length q w ten = ap (λ (t : MarkState markCells). length (t .registers)) (w .marks) ∙ (marks-length (q .marks) _ _ _ _ ∙ ten)
 
   -- An accepted step is a guarded step
 
-  abbrev next : State (cells ℕ) → MarkState (cells ℕ) → GuardedNext (cells ℕ)
+  abbrev next : State numberCells → MarkState markCells → GuardedNext numberCells markCells
   next s t = record { next = record { state = s; finish = goesOn }; marks = t }
 
-  record StepsTo (q : GuardedState (cells ℕ)) (s′ : State (cells ℕ)) (t′ : Marking) : Type 0 where
-    marks : MarkState (cells ℕ)
-    steps : guardedStep (cells ℕ) e q ≡ passes (next s′ marks)
+  record StepsTo (q : GuardedState numberCells markCells) (s′ : State numberCells) (t′ : Marking) : Type 0 where
+    marks : MarkState markCells
+    steps : guardedStep numberCells markCells e q ≡ passes (next s′ marks)
     same : t′ ≡ markingOf marks
     ten : length (marks .registers) ≡ 10
 
-  accepted-steps : (s : State (cells ℕ)) (t : MarkState (cells ℕ)) {s′ : State (cells ℕ)} {t′ : Marking} → length (t .registers) ≡ 10
+  accepted-steps : (s : State numberCells) (t : MarkState markCells) {s′ : State numberCells} {t′ : Marking} → length (t .registers) ≡ 10
       → AcceptedStep e s (markingOf t) s′ t′ → StepsTo (at s t) s′ t′
-  accepted-steps s t {s′} {t′} ten a = go (guardedStep (cells ℕ) e (at s t)) (step (cells ℕ) e s) refl refl (step-beside (cells ℕ) e (at s t))
+  accepted-steps s t {s′} {t′} ten a = go (guardedStep numberCells markCells e (at s t)) (step numberCells e s) refl refl (step-beside numberCells markCells e (at s t))
     where
-      go : (x : GuardedResult (GuardedNext (cells ℕ))) (y : Result (Next (cells ℕ))) → guardedStep (cells ℕ) e (at s t) ≡ x → step (cells ℕ) e s ≡ y
-          → Beside (cells ℕ) x y → StepsTo (at s t) s′ t′
+      go : (x : GuardedResult (GuardedNext numberCells markCells)) (y : Result (Next numberCells)) → guardedStep numberCells markCells e (at s t) ≡ x → step numberCells e s ≡ y
+          → Beside numberCells markCells x y → StepsTo (at s t) s′ t′
       go x y h k at-sink = absurd (a .unused (stop-uses e (at s t) h))
-      go x y h k (refused {f}) =
+      go x y h k (beside-refused {f}) =
           absurd
-          (let b : _≡_ {A = Result (Next (cells ℕ))} (refuse f) (pass (record { state = s′; finish = goesOn })) = sym k ∙ a .next in
+          (let b : _≡_ {A = Result (Next numberCells)} (refuse f) (pass (record { state = s′; finish = goesOn })) = sym k ∙ a .next in
           let z : _≡_ {A = ℕ} 0 1 = cc in
           omega arith)
       go x y h k (passed {n = m}) =
@@ -129,9 +129,9 @@ module _ (e : Environment) (inRange : AllInRange (e .program)) where
           let n : m .next ≡ record { state = s′; finish = goesOn } = pass-injective (sym k ∙ a .next) in
           record {
             marks = m .marks;
-            steps = h ∙ ap (λ (z : Next (cells ℕ)). passes (record { next = z; marks = m .marks })) n;
+            steps = h ∙ ap (λ (z : Next numberCells). passes (record { next = z; marks = m .marks })) n;
             same = pointwise (λ x.
-                sym (ap (λ (u : MarkState (cells ℕ)). markingOf u x) (w .marks)
+                sym (ap (λ (u : MarkState markCells). markingOf u x) (w .marks)
                 ∙ step-marks s t ten (w .fetched) x (t′ x)
                 (subst (λ (i : Instruction). MarkedAfter (markingOf t) i s (w .operands) (i .opcode) x (t′ x)) (f .0)
                 (subst (λ (o : Operands). MarkedAfter (markingOf t) (a .instruction) s o (a .instruction .opcode) x (t′ x)) (f .1) (a .marks x)))));
@@ -140,8 +140,8 @@ module _ (e : Environment) (inRange : AllInRange (e .program)) where
 
   -- and back
 
-  steps-accepted : (q : GuardedState (cells ℕ)) {n : GuardedNext (cells ℕ)} → length (q .marks .registers) ≡ 10
-      → guardedStep (cells ℕ) e q ≡ passes n → n .next .finish ≡ goesOn → n .next .state .clk < clockEnd
+  steps-accepted : (q : GuardedState numberCells markCells) {n : GuardedNext numberCells markCells} → length (q .marks .registers) ≡ 10
+      → guardedStep numberCells markCells e q ≡ passes n → n .next .finish ≡ goesOn → n .next .state .clk < clockEnd
       → AcceptedStep e (q .plain) (markingOf (q .marks)) (n .next .state) (markingOf (n .marks))
   steps-accepted q {n} ten h f l =
       let w = stepped e q h in
@@ -150,46 +150,46 @@ module _ (e : Environment) (inRange : AllInRange (e .program)) where
         operands = w .operands;
         fetched = w .fetched;
         unused = λ u. sink-passes (sym (use-stops e q u) ∙ h);
-        next = go (guardedStep (cells ℕ) e q) (step (cells ℕ) e (q .plain)) refl h (step-beside (cells ℕ) e q);
+        next = go (guardedStep numberCells markCells e q) (step numberCells e (q .plain)) refl h (step-beside numberCells markCells e q);
         clock = l;
         marks = λ x.
-            subst (λ (u : MarkState (cells ℕ)). MarkedAfter (markingOf (q .marks)) (w .instruction) (q .plain) (w .operands) (w .instruction .opcode) x (markingOf u x))
+            subst (λ (u : MarkState markCells). MarkedAfter (markingOf (q .marks)) (w .instruction) (q .plain) (w .operands) (w .instruction .opcode) x (markingOf u x))
             (sym (w .marks))
             (marks-step (q .plain) (q .marks) ten (w .fetched) x);
       }
     where
-      sink-passes : _≡_ {A = GuardedResult (GuardedNext (cells ℕ))} sink (passes n) → ⊥
+      sink-passes : _≡_ {A = GuardedResult (GuardedNext numberCells markCells)} sink (passes n) → ⊥
       sink-passes z = let y : _≡_ {A = ℕ} 0 1 = cc in omega arith
 
-      go : (x : GuardedResult (GuardedNext (cells ℕ))) (y : Result (Next (cells ℕ))) → step (cells ℕ) e (q .plain) ≡ y → x ≡ passes n → Beside (cells ℕ) x y
-          → step (cells ℕ) e (q .plain) ≡ pass (record { state = n .next .state; finish = goesOn })
+      go : (x : GuardedResult (GuardedNext numberCells markCells)) (y : Result (Next numberCells)) → step numberCells e (q .plain) ≡ y → x ≡ passes n → Beside numberCells markCells x y
+          → step numberCells e (q .plain) ≡ pass (record { state = n .next .state; finish = goesOn })
       go x y k z at-sink = absurd (sink-passes z)
-      go x y k z refused = absurd (let y : _≡_ {A = ℕ} 0 1 = cc in omega arith)
+      go x y k z beside-refused = absurd (let y : _≡_ {A = ℕ} 0 1 = cc in omega arith)
       go x y k z (passed {n = m}) =
           let a : m ≡ n = passes-injective z in
-          k ∙ (ap (λ (u : GuardedNext (cells ℕ)). pass (u .next)) a ∙ ap (λ (g : Finish). pass (record { state = n .next .state; finish = g })) f)
+          k ∙ (ap (λ (u : GuardedNext numberCells markCells). pass (u .next)) a ∙ ap (λ (g : Finish). pass (record { state = n .next .state; finish = g })) f)
 
   -- Whole runs
 
-  abbrev pub sunk : ℕ → GuardedState (cells ℕ) → Ran (GuardedState (cells ℕ))
+  abbrev pub sunk : ℕ → GuardedState numberCells markCells → Ran (GuardedState numberCells markCells)
   sunk k q = record { answer = MarkedSink; steps = k; state = q }
 
-  on-clock : (b : Bool) (q : GuardedState (cells ℕ)) {r u : Ran (GuardedState (cells ℕ))} → b ≡ true → r ≡ u → onClock b q r ≡ afterStep u
+  on-clock : (b : Bool) (q : GuardedState numberCells markCells) {r u : Ran (GuardedState numberCells markCells)} → b ≡ true → r ≡ u → onClock b q r ≡ afterStep u
   on-clock true q h k = ap afterStep k
   on-clock false q h k = absurd (let z : _≡_ {A = ℕ} 0 1 = cc in omega arith)
 
-  pub record Sunk (n k : ℕ) (q : GuardedState (cells ℕ)) (s : State (cells ℕ)) (t : Marking) : Type 0 where
-    pub marks : MarkState (cells ℕ)
-    pub runs : guardedRun (cells ℕ) e n q ≡ sunk k (at s marks)
+  pub record Sunk (n k : ℕ) (q : GuardedState numberCells markCells) (s : State numberCells) (t : Marking) : Type 0 where
+    pub marks : MarkState markCells
+    pub runs : guardedRun numberCells markCells e n q ≡ sunk k (at s marks)
 
-  pub comes-sinks : {s s″ : State (cells ℕ)} {T T″ : Marking} {k : ℕ} → Comes e s T k s″ T″ → (n : ℕ) → k < n
-      → (t : MarkState (cells ℕ)) → T ≡ markingOf t → length (t .registers) ≡ 10 → ReachesUse e s″ T″ → Sunk n k (at s t) s″ T″
+  pub comes-sinks : {s s″ : State numberCells} {T T″ : Marking} {k : ℕ} → Comes e s T k s″ T″ → (n : ℕ) → k < n
+      → (t : MarkState markCells) → T ≡ markingOf t → length (t .registers) ≡ 10 → ReachesUse e s″ T″ → Sunk n k (at s t) s″ T″
   unfolding guardedRun
   comes-sinks start zero l t h ten u = absurd (omega arith)
   comes-sinks (start {s}) (suc n) l t h ten u =
       record {
         marks = t;
-        runs = ap (λ x. onGuardedStep (cells ℕ) (at s t) x (guardedRun (cells ℕ) e n)) (use-stops e (at s t) (subst (ReachesUse e s) h u));
+        runs = ap (λ x. onGuardedStep numberCells markCells (at s t) x (guardedRun numberCells markCells e n)) (use-stops e (at s t) (subst (ReachesUse e s) h u));
       }
   comes-sinks (onward a r) zero l t h ten u = absurd (omega arith)
   comes-sinks (onward {s} {s′} {t′ = T′} a r) (suc n) l t h ten u =
@@ -198,29 +198,29 @@ module _ (e : Environment) (inRange : AllInRange (e .program)) where
       record {
         marks = i .marks;
         runs =
-            ap (λ x. onGuardedStep (cells ℕ) (at s t) x (guardedRun (cells ℕ) e n)) (w .steps)
+            ap (λ x. onGuardedStep numberCells markCells (at s t) x (guardedRun numberCells markCells e n)) (w .steps)
             ∙ on-clock (ltb (s′ .clk) clockEnd) (at s′ (w .marks)) (lt-ltb (s′ .clk) clockEnd (a .clock)) (i .runs);
       }
 
-  pub record Came (n : ℕ) (q : GuardedState (cells ℕ)) (r : Ran (GuardedState (cells ℕ))) : Type 0 where
+  pub record Came (n : ℕ) (q : GuardedState numberCells markCells) (r : Ran (GuardedState numberCells markCells)) : Type 0 where
     pub below : r .steps < n
     pub comes : Comes e (q .plain) (markingOf (q .marks)) (r .steps) (r .state .plain) (markingOf (r .state .marks))
     pub reaches : ReachesUse e (r .state .plain) (markingOf (r .state .marks))
 
-  came-on : (n : ℕ) (q : GuardedState (cells ℕ)) (m : GuardedNext (cells ℕ)) → length (q .marks .registers) ≡ 10
-      → guardedStep (cells ℕ) e q ≡ passes m
-      → ((q : GuardedState (cells ℕ)) → length (q .marks .registers) ≡ 10 → guardedRun (cells ℕ) e n q .answer ≡ MarkedSink → Came n q (guardedRun (cells ℕ) e n q))
+  came-on : (n : ℕ) (q : GuardedState numberCells markCells) (m : GuardedNext numberCells markCells) → length (q .marks .registers) ≡ 10
+      → guardedStep numberCells markCells e q ≡ passes m
+      → ((q : GuardedState numberCells markCells) → length (q .marks .registers) ≡ 10 → guardedRun numberCells markCells e n q .answer ≡ MarkedSink → Came n q (guardedRun numberCells markCells e n q))
       → (f : Finish) → m .next .finish ≡ f
-      → onFinish f (m .next .state .clk) (at (m .next .state) (m .marks)) (guardedRun (cells ℕ) e n) .answer ≡ MarkedSink
-      → Came (suc n) q (onFinish f (m .next .state .clk) (at (m .next .state) (m .marks)) (guardedRun (cells ℕ) e n))
+      → onFinish f (m .next .state .clk) (at (m .next .state) (m .marks)) (guardedRun numberCells markCells e n) .answer ≡ MarkedSink
+      → Came (suc n) q (onFinish f (m .next .state .clk) (at (m .next .state) (m .marks)) (guardedRun numberCells markCells e n))
   came-on n q m ten h rest goesOn g a = clock (ltb (m .next .state .clk) clockEnd) refl a
     where
       clock : (b : Bool) → ltb (m .next .state .clk) clockEnd ≡ b
-          → onClock b (at (m .next .state) (m .marks)) (guardedRun (cells ℕ) e n (at (m .next .state) (m .marks))) .answer ≡ MarkedSink
-          → Came (suc n) q (onClock b (at (m .next .state) (m .marks)) (guardedRun (cells ℕ) e n (at (m .next .state) (m .marks))))
+          → onClock b (at (m .next .state) (m .marks)) (guardedRun numberCells markCells e n (at (m .next .state) (m .marks))) .answer ≡ MarkedSink
+          → Came (suc n) q (onClock b (at (m .next .state) (m .marks)) (guardedRun numberCells markCells e n (at (m .next .state) (m .marks))))
       clock true c a =
           let w = rest (at (m .next .state) (m .marks)) (stepped-length q (stepped e q h) ten) a in
-          let l : guardedRun (cells ℕ) e n (at (m .next .state) (m .marks)) .steps < n = w .below in
+          let l : guardedRun numberCells markCells e n (at (m .next .state) (m .marks)) .steps < n = w .below in
           record {
             below = omega arith;
             comes = onward (steps-accepted q ten h g (ltb-true (m .next .state .clk) clockEnd c)) (w .comes);
@@ -231,16 +231,16 @@ module _ (e : Environment) (inRange : AllInRange (e .program)) where
   came-on n q m ten h rest (calls vs) g a = absurd (let z : _≡_ {A = ℕ} 0 1 = cc in omega arith)
   came-on n q m ten h rest (delegates vs) g a = absurd (let z : _≡_ {A = ℕ} 0 1 = cc in omega arith)
 
-  pub sinks-came : (n : ℕ) (q : GuardedState (cells ℕ)) → length (q .marks .registers) ≡ 10 → guardedRun (cells ℕ) e n q .answer ≡ MarkedSink
-      → Came n q (guardedRun (cells ℕ) e n q)
+  pub sinks-came : (n : ℕ) (q : GuardedState numberCells markCells) → length (q .marks .registers) ≡ 10 → guardedRun numberCells markCells e n q .answer ≡ MarkedSink
+      → Came n q (guardedRun numberCells markCells e n q)
   unfolding guardedRun
   sinks-came zero q ten a = absurd (let z : _≡_ {A = ℕ} 0 1 = cc in omega arith)
-  sinks-came (suc n) q ten a = go (guardedStep (cells ℕ) e q) refl a (λ q. sinks-came n q)
+  sinks-came (suc n) q ten a = go (guardedStep numberCells markCells e q) refl a (λ q. sinks-came n q)
     where
-      go : (x : GuardedResult (GuardedNext (cells ℕ))) → guardedStep (cells ℕ) e q ≡ x
-          → onGuardedStep (cells ℕ) q x (guardedRun (cells ℕ) e n) .answer ≡ MarkedSink
-          → ((q : GuardedState (cells ℕ)) → length (q .marks .registers) ≡ 10 → guardedRun (cells ℕ) e n q .answer ≡ MarkedSink → Came n q (guardedRun (cells ℕ) e n q))
-          → Came (suc n) q (onGuardedStep (cells ℕ) q x (guardedRun (cells ℕ) e n))
+      go : (x : GuardedResult (GuardedNext numberCells markCells)) → guardedStep numberCells markCells e q ≡ x
+          → onGuardedStep numberCells markCells q x (guardedRun numberCells markCells e n) .answer ≡ MarkedSink
+          → ((q : GuardedState numberCells markCells) → length (q .marks .registers) ≡ 10 → guardedRun numberCells markCells e n q .answer ≡ MarkedSink → Came n q (guardedRun numberCells markCells e n q))
+          → Came (suc n) q (onGuardedStep numberCells markCells q x (guardedRun numberCells markCells e n))
       go (refuses f) h a rest = absurd (let z : _≡_ {A = ℕ} 0 1 = cc in omega arith)
       go sink h a rest = record { below = omega arith; comes = start; reaches = stop-uses e q h }
       go (passes m) h a rest = came-on n q m ten h rest (m .next .finish) refl a

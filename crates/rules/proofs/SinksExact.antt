@@ -11,7 +11,7 @@ use Rattle.rules.specs.declared.OlaOperand.{OlaOperand}
 use Rattle.rules.specs.declared.OlaOperand.the-variants.{Absent, Immediate, Register, RegisterWithOffset, RegisterWithFactor, Psp, Pc}
 use Rattle.rules.specs.declared.Instruction.{Instruction}
 use Rattle.rules.specs.Results.{pass, GuardedResult, sink, passes, after}
-use Rattle.rules.specs.Cells.{Cells, cells}
+use Rattle.rules.specs.Cells.{Cells, numberCells, markCells}
 use Rattle.rules.specs.Opcodes.{classOf}
 use Rattle.rules.specs.Operands.{Operands}
 use Rattle.rules.specs.Step.{Environment, State, Next, operate, capacity}
@@ -63,7 +63,7 @@ use Rattle.rules.proofs.MarksFollow.{markingOf, operand-mark}
 never : {X : Type 0} → false ≡ true → X
 never h = absurd (false-true h)
 
-marked-operand : (t : MarkState (cells ℕ)) (o : OlaOperand) → operandMark (t .registers) o ≡ true → OperandMarked (markingOf t) o true
+marked-operand : (t : MarkState markCells) (o : OlaOperand) → operandMark (t .registers) o ≡ true → OperandMarked (markingOf t) o true
 marked-operand t Absent h = never h
 marked-operand t (Immediate w) h = never h
 marked-operand t (Register r) h = subst (OperandMarked (markingOf t) (Register r)) h of-register
@@ -74,7 +74,7 @@ marked-operand t Pc h = never h
 
 -- The sinks of operands
 
-module _ (t : MarkState (cells ℕ)) (i : Instruction) where
+module _ (t : MarkState markCells) (i : Instruction) where
   abbrev mark0 : Bool
   mark0 = operandMark (t .registers) (i .op0)
 
@@ -151,29 +151,29 @@ module _ (t : MarkState (cells ℕ)) (i : Instruction) where
 
 -- The sinks of what was read
 
-span-cell : (c : Cells ℕ) (a n : ℕ) → spanMark (cells ℕ) c a n ≡ true → (x : ℕ) × (a ≤ x) × (x < a + n) × (cellMark (cells ℕ) c x ≡ true)
+span-cell : (c : Cells ℕ) (a n : ℕ) → spanMark markCells c a n ≡ true → (x : ℕ) × (a ≤ x) × (x < a + n) × (cellMark markCells c x ≡ true)
 unfolding spanMark
 span-cell c a zero h = never h
 span-cell c a (suc n) h =
-    or-case (cellMark (cells ℕ) c a) (spanMark (cells ℕ) c (suc a) n) h
+    or-case (cellMark markCells c a) (spanMark markCells c (suc a) n) h
     (λ k. (a, omega arith, omega arith, k))
     (λ k. let r = span-cell c (suc a) n k in let l = r .1 in let u = r .2 in (r .0, omega arith, omega arith, r .3))
 
-cell-span : (c : Cells ℕ) (a n x : ℕ) → a ≤ x → x < a + n → cellMark (cells ℕ) c x ≡ true → spanMark (cells ℕ) c a n ≡ true
+cell-span : (c : Cells ℕ) (a n x : ℕ) → a ≤ x → x < a + n → cellMark markCells c x ≡ true → spanMark markCells c a n ≡ true
 unfolding spanMark
 cell-span c a zero x l u h = absurd (omega arith)
 cell-span c a (suc n) x l u h = go (λ v. cell-span c (suc a) n x v (omega arith) h) (leb (suc a) x) refl
   where
-    go : (suc a ≤ x → spanMark (cells ℕ) c (suc a) n ≡ true) → (b : Bool) → leb (suc a) x ≡ b
-        → (cellMark (cells ℕ) c a || spanMark (cells ℕ) c (suc a) n) ≡ true
-    go k true q = or-second (cellMark (cells ℕ) c a) (k (leb-true (suc a) x q))
+    go : (suc a ≤ x → spanMark markCells c (suc a) n ≡ true) → (b : Bool) → leb (suc a) x ≡ b
+        → (cellMark markCells c a || spanMark markCells c (suc a) n) ≡ true
+    go k true q = or-second (cellMark markCells c a) (k (leb-true (suc a) x q))
     go k false q =
         let v : x < suc a = leb-false (suc a) x q in
         let e : x ≡ a = omega arith in
-        or-first _ (subst (λ y. cellMark (cells ℕ) c y ≡ true) e h)
+        or-first _ (subst (λ y. cellMark markCells c y ≡ true) e h)
 
-module _ (e : Environment) (t : MarkState (cells ℕ)) (i : Instruction) (s : State (cells ℕ)) (o : Operands) where
-  sink-read : (c : OlaOpcode) {n : Next (cells ℕ)} → operate (cells ℕ) e (classOf c) i s o ≡ pass n → readSink (cells ℕ) t (classOf c) i s o ≡ true
+module _ (e : Environment) (t : MarkState markCells) (i : Instruction) (s : State numberCells) (o : Operands) where
+  sink-read : (c : OlaOpcode) {n : Next numberCells} → operate numberCells e (classOf c) i s o ≡ pass n → readSink numberCells markCells t (classOf c) i s o ≡ true
       → ReadUse (markingOf t) i e s o c
   unfolding operate readSink classOf
   sink-read O.Add q h = never h
@@ -217,7 +217,7 @@ module _ (e : Environment) (t : MarkState (cells ℕ)) (i : Instruction) (s : St
   sink-read O.Event q h = never h
 
   read-sink : {c : OlaOpcode} → ReadUse (markingOf t) i e s o c
-      → (n : Next (cells ℕ)) × (operate (cells ℕ) e (classOf c) i s o ≡ pass n) × (readSink (cells ℕ) t (classOf c) i s o ≡ true)
+      → (n : Next numberCells) × (operate numberCells e (classOf c) i s o ≡ pass n) × (readSink numberCells markCells t (classOf c) i s o ≡ true)
   unfolding operate readSink classOf
   read-sink (cjmp-op1 l v h) = (_, pass-require _ (le-leb (o .op0) 1 l) (pass-bind _ v refl), operand-mark t h)
   read-sink (tstore-cell v a l u h) = (_, pass-bind _ v refl, cell-span (t .cells) (o .op0) (o .op1) a l u h)
@@ -226,15 +226,15 @@ module _ (e : Environment) (t : MarkState (cells ℕ)) (i : Instruction) (s : St
 
 -- A whole step
 
-capacity-no-sink : (e : Environment) (n : Next (cells ℕ)) (t : MarkState (cells ℕ))
-    → after {B = GuardedNext (cells ℕ)} (capacity (cells ℕ) e n) (λ n. passes (record { next = n; marks = t })) ≡ sink → ⊥
+capacity-no-sink : (e : Environment) (n : Next numberCells) (t : MarkState markCells)
+    → after {B = GuardedNext numberCells markCells} (capacity numberCells e n) (λ n. passes (record { next = n; marks = t })) ≡ sink → ⊥
 capacity-no-sink e n t h =
-    let r = after-sink (capacity (cells ℕ) e n) _ h in
-    let q : _≡_ {A = GuardedResult (GuardedNext (cells ℕ))} (passes (record { next = r .0; marks = t })) sink = r .2 in
+    let r = after-sink (capacity numberCells e n) _ h in
+    let q : _≡_ {A = GuardedResult (GuardedNext numberCells markCells)} (passes (record { next = r .0; marks = t })) sink = r .2 in
     let z : _≡_ {A = ℕ} 0 1 = cc in
     omega arith
 
-pub use-stops : (e : Environment) (q : GuardedState (cells ℕ)) → ReachesUse e (q .plain) (markingOf (q .marks)) → guardedStep (cells ℕ) e q ≡ sink
+pub use-stops : (e : Environment) (q : GuardedState numberCells markCells) → ReachesUse e (q .plain) (markingOf (q .marks)) → guardedStep numberCells markCells e q ≡ sink
 unfolding guardedStep guardedRest
 use-stops e q (operand {i} {o} f u) =
     after-step _ (f .fetched) ∙ after-step _ (f .read)
@@ -244,7 +244,7 @@ use-stops e q (reading {i} {o} f n u) =
     after-step _ (f .fetched) ∙ after-step _ (f .read)
     ∙ sink-guard _ _ (λ c. after-step _ (r .1) ∙ sink-guard _ _ (λ d. never (sym d ∙ r .2)))
 
-pub stop-uses : (e : Environment) (q : GuardedState (cells ℕ)) → guardedStep (cells ℕ) e q ≡ sink → ReachesUse e (q .plain) (markingOf (q .marks))
+pub stop-uses : (e : Environment) (q : GuardedState numberCells markCells) → guardedStep numberCells markCells e q ≡ sink → ReachesUse e (q .plain) (markingOf (q .marks))
 unfolding guardedStep guardedRest
 stop-uses e q h =
     let x = after-sink _ _ h in
@@ -258,4 +258,4 @@ stop-uses e q h =
     let z = after-sink _ _ k in
     guard-sink _ _ (z .2)
     (λ c. reading f (λ u. never (sym b ∙ use-sink (q .marks) i u)) (sink-read e (q .marks) i (q .plain) o (i .opcode) (z .1) c))
-    (λ c l. absurd (capacity-no-sink e (z .0) (marksAfter (cells ℕ) (q .marks) (classOf (i .opcode)) i (q .plain) o) l)))
+    (λ c l. absurd (capacity-no-sink e (z .0) (marksAfter numberCells markCells (q .marks) (classOf (i .opcode)) i (q .plain) o) l)))

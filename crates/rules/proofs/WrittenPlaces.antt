@@ -11,7 +11,7 @@ use Rattle.rules.specs.declared.OlaOpcode.{OlaOpcode}
 use Rattle.rules.specs.declared.OlaOpcode.the-variants as O
 use Rattle.rules.specs.Numbers.{bit}
 use Rattle.rules.specs.Field.{fieldAdd}
-use Rattle.rules.specs.Cells.{Cells, put, cells}
+use Rattle.rules.specs.Cells.{Cells, put, numberCells, markCells}
 use Rattle.rules.specs.Operands.{Operands}
 use Rattle.rules.specs.Step.{State, r9, tapeValues}
 use Rattle.rules.specs.Guarded.{slotMark, cellMark, cleanMany}
@@ -20,40 +20,40 @@ use Rattle.rules.proofs.CellLaws.{get-put-same, get-put-other}
 
 -- Cells that were cleaned
 
-pub stored-mark : (c : Cells ℕ) (a : ℕ) (b : Bool) → cellMark (cells ℕ) (put c a (bit b)) a ≡ b
-stored-mark c a b = ap (slotMark (cells ℕ)) (get-put-same c a (bit b)) ∙ go b
+pub stored-mark : (c : Cells ℕ) (a : ℕ) (b : Bool) → cellMark markCells (put c a (bit b)) a ≡ b
+stored-mark c a b = ap (slotMark markCells) (get-put-same c a (bit b)) ∙ go b
   where
     go : (b : Bool) → eqb (bit b) 1 ≡ b
     go true = refl
     go false = refl
 
-pub other-mark : (c : Cells ℕ) (a v x : ℕ) → (a ≡ x → ⊥) → cellMark (cells ℕ) (put c a v) x ≡ cellMark (cells ℕ) c x
-other-mark c a v x h = ap (slotMark (cells ℕ)) (get-put-other c a v x h)
+pub other-mark : (c : Cells ℕ) (a v x : ℕ) → (a ≡ x → ⊥) → cellMark markCells (put c a v) x ≡ cellMark markCells c x
+other-mark c a v x h = ap (slotMark markCells) (get-put-other c a v x h)
 
 pub clean-outside : (c : Cells ℕ) (a : ℕ) (vs : List ℕ) (x : ℕ) → (a ≤ x → x < a + length vs → ⊥)
-    → cellMark (cells ℕ) (cleanMany (cells ℕ) c a vs) x ≡ cellMark (cells ℕ) c x
+    → cellMark markCells (cleanMany markCells c a vs) x ≡ cellMark markCells c x
 unfolding cleanMany
 clean-outside c a [] x h = refl
 clean-outside c a (v ∷ vs) x h =
     clean-outside (put c a 0) (suc a) vs x (λ l u. h (omega arith) (omega arith))
     ∙ other-mark c a 0 x (λ e. h (omega arith) (omega arith))
 
-pub clean-inside : (c : Cells ℕ) (a : ℕ) (vs : List ℕ) (x : ℕ) → a ≤ x → x < a + length vs → cellMark (cells ℕ) (cleanMany (cells ℕ) c a vs) x ≡ false
+pub clean-inside : (c : Cells ℕ) (a : ℕ) (vs : List ℕ) (x : ℕ) → a ≤ x → x < a + length vs → cellMark markCells (cleanMany markCells c a vs) x ≡ false
 unfolding cleanMany
 clean-inside c a [] x l u = absurd (omega arith)
 clean-inside c a (v ∷ vs) x l u = go (λ k. clean-inside (put c a 0) (suc a) vs x k (omega arith)) (ltb a x) refl
   where
-    go : (suc a ≤ x → cellMark (cells ℕ) (cleanMany (cells ℕ) (put c a 0) (suc a) vs) x ≡ false) → (b : Bool) → ltb a x ≡ b
-        → cellMark (cells ℕ) (cleanMany (cells ℕ) (put c a 0) (suc a) vs) x ≡ false
+    go : (suc a ≤ x → cellMark markCells (cleanMany markCells (put c a 0) (suc a) vs) x ≡ false) → (b : Bool) → ltb a x ≡ b
+        → cellMark markCells (cleanMany markCells (put c a 0) (suc a) vs) x ≡ false
     go rest true e = rest (ltb-true a x e)
     go rest false e =
         let m : x ≤ a = ltb-false a x e in
         clean-outside (put c a 0) (suc a) vs x (λ l u. omega arith)
-        ∙ subst (λ y. cellMark (cells ℕ) (put c a 0) y ≡ false) (let y : a ≡ x = omega arith in y) (stored-mark c a false)
+        ∙ subst (λ y. cellMark markCells (put c a 0) y ≡ false) (let y : a ≡ x = omega arith in y) (stored-mark c a false)
 
 -- Which places an opcode does not write
 
-module _ (s : State (cells ℕ)) (o : Operands) where
+module _ (s : State numberCells) (o : Operands) where
   pub both-register : {c : OlaOpcode} {r : ℕ} → FromBoth c → Writes s o c (register r) → o .dst ≡ r
   both-register f (both g) = refl
   both-register f (one g) = refl
@@ -99,7 +99,7 @@ module _ (s : State (cells ℕ)) (o : Operands) where
   mstore-register (both f) = elim f [ ]
   mstore-register (one f) = elim f [ ]
 
-  pub call-cell : {a : ℕ} → Writes s o O.Call (cell a) → r9 (cells ℕ) s - 1 ≡ a
+  pub call-cell : {a : ℕ} → Writes s o O.Call (cell a) → r9 numberCells s - 1 ≡ a
   call-cell call = refl
 
   pub call-register : {r : ℕ} → Writes s o O.Call (register r) → ⊥
@@ -128,7 +128,7 @@ pub data WritesNothing : OlaOpcode → Type 0 where
   sigcheck : WritesNothing O.Sigcheck
   event : WritesNothing O.Event
 
-pub nothing-written : (s : State (cells ℕ)) (o : Operands) {c : OlaOpcode} {x : Place} → WritesNothing c → Writes s o c x → ⊥
+pub nothing-written : (s : State numberCells) (o : Operands) {c : OlaOpcode} {x : Place} → WritesNothing c → Writes s o c x → ⊥
 nothing-written s o n (both add) = elim n [ ]
 nothing-written s o n (both mul) = elim n [ ]
 nothing-written s o n (both eq) = elim n [ ]

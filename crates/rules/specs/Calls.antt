@@ -8,7 +8,7 @@ use Rattle.rules.specs.Numbers.{choose}
 use Rattle.rules.specs.Results.{Result, refuse, pass}
 use Rattle.rules.specs.Frames.{loadWords}
 use Rattle.rules.specs.Text.{Job, loadText, loadBudgetText}
-use Rattle.rules.specs.Cells.{cells}
+use Rattle.rules.specs.Cells.{numberCells, markCells}
 use Rattle.rules.specs.Step.{State, Ran, run}
 use Rattle.rules.specs.Guarded.{GuardedState, guardedRun}
 use Rattle.rules.specs.Answers.{Meaning, meaning, refusalMeaning}
@@ -24,16 +24,16 @@ pub record Called (S : Type 0) : Type 0 where
 abbrev pub refusedCall : {S : Type 0} → Refusal → S → Called S
 refusedCall f s = record { answer = refusalMeaning f; steps = 0; left = s }
 
-abbrev pub plainRunOf : List Instruction → ℕ → Snapshot → Ran (State (cells ℕ))
-plainRunOf program budget s = run (cells ℕ) (environment program s) budget (stateOf s)
+abbrev pub plainRunOf : List Instruction → ℕ → Snapshot → Ran (State numberCells)
+plainRunOf program budget s = run numberCells (environment program s) budget (stateOf s)
 
-abbrev pub guardedRunOf : List Instruction → ℕ → GuardedSnapshot → Ran (GuardedState (cells ℕ))
-guardedRunOf program budget g = guardedRun (cells ℕ) (environment program (g .plain)) budget (guardedStateOf g)
+abbrev pub guardedRunOf : List Instruction → ℕ → GuardedSnapshot → Ran (GuardedState numberCells markCells)
+guardedRunOf program budget g = guardedRun numberCells markCells (environment program (g .plain)) budget (guardedStateOf g)
 
-abbrev pub plainAnswered : Snapshot → Ran (State (cells ℕ)) → Called Snapshot
+abbrev pub plainAnswered : Snapshot → Ran (State numberCells) → Called Snapshot
 plainAnswered s r = record { answer = meaning (r .answer); steps = r .steps; left = snapshotAfter s (r .state) }
 
-abbrev pub guardedAnswered : GuardedSnapshot → Ran (GuardedState (cells ℕ)) → Called GuardedSnapshot
+abbrev pub guardedAnswered : GuardedSnapshot → Ran (GuardedState numberCells markCells) → Called GuardedSnapshot
 guardedAnswered g r = record { answer = meaning (r .answer); steps = r .steps; left = guardedSnapshotAfter g (r .state) }
 
 -- of a program as loaded

@@ -46,3 +46,10 @@ module _ {A : Type 0} where
 
 abbrev pub cells : (A : Type 0) → Memory A
 cells A = record { Mem = Cells A; get = get; put = put; count = count }
+
+-- the memory of numbers, and that of marks: 1 where the cell is marked, else 0
+abbrev pub numberCells : Memory ℕ
+numberCells = cells ℕ
+
+abbrev pub markCells : Memory ℕ
+markCells = cells ℕ

@@ -8,7 +8,7 @@ use Rattle.rules.specs.declared.Machine.{Machine}
 use Rattle.rules.specs.declared.Instruction.{Instruction}
 use Rattle.rules.specs.Numbers.{p, heapEnd, clockEnd, cellLimit, valueLimit, bit}
 use Rattle.rules.specs.Cells as Cells
-use Rattle.rules.specs.Cells.{cells, zipped}
+use Rattle.rules.specs.Cells.{numberCells, markCells, zipped}
 use Rattle.rules.specs.Step.{Environment, State, isStorable, overlay}
 use Rattle.rules.specs.Guarded.{GuardedState}
 
@@ -131,7 +131,7 @@ environment program s =
       outputCapacity = length (s .output);
     }
 
-abbrev pub stateOf : Snapshot → State (cells ℕ)
+abbrev pub stateOf : Snapshot → State numberCells
 stateOf s =
     record {
       registers = s .machine .registers;
@@ -143,7 +143,7 @@ stateOf s =
       written = usedOutput s;
     }
 
-abbrev pub guardedStateOf : GuardedSnapshot → GuardedState (cells ℕ)
+abbrev pub guardedStateOf : GuardedSnapshot → GuardedState numberCells markCells
 guardedStateOf g =
     record {
       plain = stateOf (g .plain);
@@ -152,7 +152,7 @@ guardedStateOf g =
 
 -- The snapshot that a state leaves: what is used, and behind it what stood there
 
-abbrev pub snapshotAfter : Snapshot → State (cells ℕ) → Snapshot
+abbrev pub snapshotAfter : Snapshot → State numberCells → Snapshot
 snapshotAfter s t =
     record {
       machine = record {
@@ -171,7 +171,7 @@ snapshotAfter s t =
       output = overlay (t .written) (s .output);
     }
 
-abbrev pub guardedSnapshotAfter : GuardedSnapshot → GuardedState (cells ℕ) → GuardedSnapshot
+abbrev pub guardedSnapshotAfter : GuardedSnapshot → GuardedState numberCells markCells → GuardedSnapshot
 guardedSnapshotAfter g q =
     record {
       plain = snapshotAfter (g .plain) (q .plain);

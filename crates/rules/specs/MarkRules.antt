@@ -8,7 +8,7 @@ use Rattle.rules.specs.declared.OlaOperand.{OlaOperand}
 use Rattle.rules.specs.declared.OlaOperand.the-variants.{Immediate, Register, RegisterWithOffset, RegisterWithFactor, Psp}
 use Rattle.rules.specs.declared.Instruction.{Instruction}
 use Rattle.rules.specs.Field.{fieldAdd}
-use Rattle.rules.specs.Cells.{cells}
+use Rattle.rules.specs.Cells.{numberCells}
 use Rattle.rules.specs.Operands.{Operands}
 use Rattle.rules.specs.Step.{State, r9, tapeValues}
 
@@ -44,17 +44,17 @@ pub data FromOne : OlaOpcode → Type 0 where
   mov : FromOne O.Mov
 
 -- the places that a step writes: the destination of a result and of MLOAD, R9 of RET; the cells of MSTORE, CALL and TLOAD
-pub data Writes (s : State (cells ℕ)) (o : Operands) : OlaOpcode → Place → Type 0 where
+pub data Writes (s : State numberCells) (o : Operands) : OlaOpcode → Place → Type 0 where
   both : {c : OlaOpcode} → FromBoth c → Writes s o c (register (o .dst))
   one : {c : OlaOpcode} → FromOne c → Writes s o c (register (o .dst))
   mload : Writes s o O.Mload (register (o .dst))
   ret : Writes s o O.Ret (register 9)
   mstore : Writes s o O.Mstore (cell (fieldAdd (o .op0) (o .op1)))
-  call : Writes s o O.Call (cell (r9 (cells ℕ) s - 1))
+  call : Writes s o O.Call (cell (r9 numberCells s - 1))
   tload : {a : ℕ} → o .dst ≤ a → a < o .dst + length (tapeValues (o .op0) (o .op1) (s .tape)) → Writes s o O.Tload (cell a)
 
 -- after an accepted step of an instruction, from the state s with the operands o: is a place marked?
-pub data MarkedAfter (t : Marking) (i : Instruction) (s : State (cells ℕ)) (o : Operands) : OlaOpcode → Place → Bool → Type 0 where
+pub data MarkedAfter (t : Marking) (i : Instruction) (s : State numberCells) (o : Operands) : OlaOpcode → Place → Bool → Type 0 where
   -- a result is marked where any operand that it came from is
   result-of-both : {c : OlaOpcode} {a b : Bool} → FromBoth c → OperandMarked t (i .op0) a → OperandMarked t (i .op1) b
       → MarkedAfter t i s o c (register (o .dst)) (a || b)
@@ -62,9 +62,9 @@ pub data MarkedAfter (t : Marking) (i : Instruction) (s : State (cells ℕ)) (o 
   -- MSTORE, MLOAD and RET's R9 pass the mark on
   mstore-passes : MarkedAfter t i s o O.Mstore (cell (fieldAdd (o .op0) (o .op1))) (t (register (o .dst)))
   mload-passes : MarkedAfter t i s o O.Mload (register (o .dst)) (t (cell (fieldAdd (o .op0) (o .op1))))
-  ret-passes : MarkedAfter t i s o O.Ret (register 9) (t (cell (r9 (cells ℕ) s - 2)))
+  ret-passes : MarkedAfter t i s o O.Ret (register 9) (t (cell (r9 numberCells s - 2)))
   -- tape values and return pcs are unmarked
   tape-value : {a : ℕ} → Writes s o O.Tload (cell a) → MarkedAfter t i s o O.Tload (cell a) false
-  return-pc : MarkedAfter t i s o O.Call (cell (r9 (cells ℕ) s - 1)) false
+  return-pc : MarkedAfter t i s o O.Call (cell (r9 numberCells s - 1)) false
   -- every other place keeps its mark
   kept : {c : OlaOpcode} {x : Place} → (Writes s o c x → ⊥) → MarkedAfter t i s o c x (t x)

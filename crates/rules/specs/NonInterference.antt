@@ -9,7 +9,7 @@ use Rattle.rules.specs.declared.Instruction.{Instruction}
 use Rattle.rules.specs.declared.Refusal.the-variants.{BadState}
 use Rattle.rules.specs.Numbers.{p}
 use Rattle.rules.specs.Results.{Result, pass}
-use Rattle.rules.specs.Cells.{cells, get, zipped}
+use Rattle.rules.specs.Cells.{numberCells, markCells, get, zipped}
 use Rattle.rules.specs.Step.{State}
 use Rattle.rules.specs.Guarded.{registerMark, slotMark}
 use Rattle.rules.specs.Answers.{outcome, refusal}
@@ -94,11 +94,11 @@ pausedAfter k s = record { answer = outcome 3 []; steps = k; left = s }
 -- the marks that a snapshot starts with
 abbrev pub startMarks : GuardedSnapshot → Marking
 startMarks g (register r) = registerMark (markedRegisters g) r
-startMarks g (cell a) = slotMark (cells ℕ) (get (zipped (usedAddresses (g .plain)) (usedMarks g)) a)
+startMarks g (cell a) = slotMark markCells (get (zipped (usedAddresses (g .plain)) (usedMarks g)) a)
 
 -- 'Reaches a listed use': the call passes entry, comes to a state after k steps, and the next step reaches a use
 pub data Reaches : Result (List Instruction) → GuardedSnapshot → ℕ → Type 0 where
-  reaches : {program : List Instruction} {g : GuardedSnapshot} {k : ℕ} {s : State (cells ℕ)} {t : Marking}
+  reaches : {program : List Instruction} {g : GuardedSnapshot} {k : ℕ} {s : State numberCells} {t : Marking}
       → guardedEntry g ≡ true
       → Comes (environment program (g .plain)) (stateOf (g .plain)) (startMarks g) k s t
       → ReachesUse (environment program (g .plain)) s t

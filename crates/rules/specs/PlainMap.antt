@@ -23,3 +23,10 @@ mapPut m a v =
 
 abbrev pub plainMap : (A : Type 0) → Memory A
 plainMap A = record { Mem = PlainMap A; get = λ m a. m .at a; put = mapPut; count = λ m. m .size }
+
+-- the map of numbers, and that of marks
+abbrev pub numberMap : Memory ℕ
+numberMap = plainMap ℕ
+
+abbrev pub markMap : Memory ℕ
+markMap = plainMap ℕ

@@ -6,7 +6,7 @@ use mathlib.Core.List.{List}
 use lib.ListN.{length}
 use Rattle.rules.specs.declared.Instruction.{Instruction}
 use Rattle.rules.specs.Numbers.{clockEnd}
-use Rattle.rules.specs.Cells.{cells}
+use Rattle.rules.specs.Cells.{numberCells, markCells}
 use Rattle.rules.specs.Step.{State}
 use Rattle.rules.specs.Guarded.{GuardedState}
 use Rattle.rules.specs.Entry as Entry
@@ -14,7 +14,7 @@ use Rattle.rules.specs.Entry.{Snapshot, GuardedSnapshot, plainEntry, gua
 use Rattle.rules.specs.Soundness.{Sound, GuardedSound}
 
 -- a state as the next call sees it: what the run wrote behind the output no longer counts as written
-abbrev pub resumed : State (cells ℕ) → State (cells ℕ)
+abbrev pub resumed : State numberCells → State numberCells
 resumed t =
     record {
       registers = t .registers;
@@ -26,10 +26,10 @@ resumed t =
       written = t .output;
     }
 
-abbrev pub guardedResumed : GuardedState (cells ℕ) → GuardedState (cells ℕ)
+abbrev pub guardedResumed : GuardedState numberCells markCells → GuardedState numberCells markCells
 guardedResumed q = record { plain = resumed (q .plain); marks = q .marks }
 
-pub record Resumable (program : List Instruction) (s : Snapshot) (t : State (cells ℕ)) : Type 0 where
+pub record Resumable (program : List Instruction) (s : Snapshot) (t : State numberCells) : Type 0 where
   pub addresses : length (snapshotAfter s t .addresses) ≡ length (s .addresses)
   pub numbers : length (snapshotAfter s t .numbers) ≡ length (s .numbers)
   pub tape : length (snapshotAfter s t .tape) ≡ length (s .tape)
@@ -39,7 +39,7 @@ pub record Resumable (program : List Instruction) (s : Snapshot) (t : State (cel
   -- it is refused 3 only for its clock
   pub entry : t .clk < clockEnd → plainEntry (snapshotAfter s t) ≡ true
 
-pub record GuardedResumable (program : List Instruction) (g : GuardedSnapshot) (q : GuardedState (cells ℕ)) : Type 0 where
+pub record GuardedResumable (program : List Instruction) (g : GuardedSnapshot) (q : GuardedState numberCells markCells) : Type 0 where
   pub plain : Resumable program (g .plain) (q .plain)
   pub marks : length (guardedSnapshotAfter g q .marks) ≡ length (g .marks)
   pub state : guardedStateOf (guardedSnapshotAfter g q) ≡ guardedResumed q
@@ -48,6 +48,6 @@ pub record GuardedResumable (program : List Instruction) (g : GuardedSnapshot) (
 -- The theorem: it holds of every sound state over the buffers of a snapshot that passed entry, so of every end of a run from there
 
 pub record Resumption (program : List Instruction) : Type 0 where
-  pub plain : (s : Snapshot) (t : State (cells ℕ)) → plainEntry s ≡ true → Sound (Entry.environment program s) t → Resumable program s t
-  pub guarded : (g : GuardedSnapshot) (q : GuardedState (cells ℕ)) → guardedEntry g ≡ true
+  pub plain : (s : Snapshot) (t : State numberCells) → plainEntry s ≡ true → Sound (Entry.environment program s) t → Resumable program s t
+  pub guarded : (g : GuardedSnapshot) (q : GuardedState numberCells markCells) → guardedEntry g ≡ true
       → GuardedSound (Entry.environment program (g .plain)) q → GuardedResumable program g q

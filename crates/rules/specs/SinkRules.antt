@@ -8,7 +8,7 @@ use Rattle.rules.specs.declared.OlaOpcode.the-variants as O
 use Rattle.rules.specs.declared.Instruction.{Instruction}
 use Rattle.rules.specs.Numbers.{clockEnd}
 use Rattle.rules.specs.Results.{pass}
-use Rattle.rules.specs.Cells.{cells}
+use Rattle.rules.specs.Cells.{numberCells}
 use Rattle.rules.specs.Opcodes.{classOf}
 use Rattle.rules.specs.Operands.{fetch, valueOf, Operands, operands}
 use Rattle.rules.specs.Step.{Environment, State, goesOn, r9, readBelow, readSpan, step}
@@ -63,38 +63,38 @@ module _ (t : Marking) (i : Instruction) where
     tload-dst : OperandMarked t (i .dst) true → OperandUse O.Tload
 
   -- the uses that come later: CJMP's op1 after the test and its evaluation; cells and RET's pc after all reads are found
-  pub data ReadUse (e : Environment) (s : State (cells ℕ)) (o : Operands) : OlaOpcode → Type 0 where
+  pub data ReadUse (e : Environment) (s : State numberCells) (o : Operands) : OlaOpcode → Type 0 where
     cjmp-op1 : {v : ℕ} → o .op0 ≤ 1 → valueOf (e .psp) (s .registers) (i .op1) ≡ pass v → Op1 → ReadUse e s o O.Cjmp
-    tstore-cell : {vs : List ℕ} → readSpan (cells ℕ) (s .cells) (o .op0) (o .op1) ≡ pass vs
+    tstore-cell : {vs : List ℕ} → readSpan numberCells (s .cells) (o .op0) (o .op1) ≡ pass vs
         → (a : ℕ) → o .op0 ≤ a → a < o .op0 + o .op1 → t (cell a) ≡ true → ReadUse e s o O.Tstore
-    sccall-cell : {vs : List ℕ} → readSpan (cells ℕ) (s .cells) (o .op0) 4 ≡ pass vs
+    sccall-cell : {vs : List ℕ} → readSpan numberCells (s .cells) (o .op0) 4 ≡ pass vs
         → (a : ℕ) → o .op0 ≤ a → a < o .op0 + 4 → t (cell a) ≡ true → ReadUse e s o O.Sccall
-    ret-pc : {v w : ℕ} → readBelow (cells ℕ) (s .cells) (r9 (cells ℕ) s) 1 ≡ pass v → readBelow (cells ℕ) (s .cells) (r9 (cells ℕ) s) 2 ≡ pass w
-        → t (cell (r9 (cells ℕ) s - 1)) ≡ true → ReadUse e s o O.Ret
+    ret-pc : {v w : ℕ} → readBelow numberCells (s .cells) (r9 numberCells s) 1 ≡ pass v → readBelow numberCells (s .cells) (r9 numberCells s) 2 ≡ pass w
+        → t (cell (r9 numberCells s - 1)) ≡ true → ReadUse e s o O.Ret
 
 -- the step of an instruction, as fetched and with its operands as read
-pub record InstructionRead (e : Environment) (s : State (cells ℕ)) (i : Instruction) (o : Operands) : Type 0 where
+pub record InstructionRead (e : Environment) (s : State numberCells) (i : Instruction) (o : Operands) : Type 0 where
   pub fetched : fetch (e .program) (s .pc) ≡ pass i
   pub read : operands (e .psp) (s .registers) (classOf (i .opcode)) i ≡ pass o
 
 -- the step from a state reaches a listed use: nothing before the use refuses it
-pub data ReachesUse (e : Environment) (s : State (cells ℕ)) (t : Marking) : Type 0 where
+pub data ReachesUse (e : Environment) (s : State numberCells) (t : Marking) : Type 0 where
   operand : {i : Instruction} {o : Operands} → InstructionRead e s i o → OperandUse t i (i .opcode) → ReachesUse e s t
   reading : {i : Instruction} {o : Operands} → InstructionRead e s i o → (OperandUse t i (i .opcode) → ⊥)
       → ReadUse t i e s o (i .opcode) → ReachesUse e s t
 
 -- an accepted step that lets the run go on: the plain step, at no listed use, with the marks that the rules give
-pub record AcceptedStep (e : Environment) (s : State (cells ℕ)) (t : Marking) (s′ : State (cells ℕ)) (t′ : Marking) : Type 0 where
+pub record AcceptedStep (e : Environment) (s : State numberCells) (t : Marking) (s′ : State numberCells) (t′ : Marking) : Type 0 where
   pub instruction : Instruction
   pub operands : Operands
   pub fetched : InstructionRead e s instruction operands
   pub unused : ReachesUse e s t → ⊥
-  pub next : step (cells ℕ) e s ≡ pass (record { state = s′; finish = goesOn })
+  pub next : step numberCells e s ≡ pass (record { state = s′; finish = goesOn })
   pub clock : s′ .clk < clockEnd
   pub marks : (x : Place) → MarkedAfter t instruction s operands (instruction .opcode) x (t′ x)
 
 -- the guarded run comes to a state after k steps
-pub data Comes (e : Environment) : State (cells ℕ) → Marking → ℕ → State (cells ℕ) → Marking → Type 0 where
-  start : {s : State (cells ℕ)} {t : Marking} → Comes e s t 0 s t
-  onward : {s s′ s″ : State (cells ℕ)} {t t′ t″ : Marking} {k : ℕ}
+pub data Comes (e : Environment) : State numberCells → Marking → ℕ → State numberCells → Marking → Type 0 where
+  start : {s : State numberCells} {t : Marking} → Comes e s t 0 s t
+  onward : {s s′ s″ : State numberCells} {t t′ t″ : Marking} {k : ℕ}
       → AcceptedStep e s t s′ t′ → Comes e s′ t′ k s″ t″ → Comes e s t (suc k) s″ t″

@@ -9,7 +9,7 @@ use Rattle.rules.specs.Numbers.{p, heapEnd}
 use Rattle.rules.specs.Results.{pass, passes}
 use Rattle.rules.specs.Memory.{present}
 use Rattle.rules.specs.Cells as Cells
-use Rattle.rules.specs.Cells.{Cells, get, count, Rising, cells}
+use Rattle.rules.specs.Cells.{Cells, get, count, Rising, numberCells, markCells}
 use Rattle.rules.specs.Step as Plain
 use Rattle.rules.specs.Step.{Environment, State, Next}
 use Rattle.rules.specs.Guarded as Guarded
@@ -22,7 +22,7 @@ pub record SoundCells (c : Cells ℕ) : Type 0 where
   pub inHeap : (a v : ℕ) → get c a ≡ present v → a < heapEnd
   pub storable : (a v : ℕ) → get c a ≡ present v → v ≤ p
 
-pub record Sound (e : Environment) (s : State (cells ℕ)) : Type 0 where
+pub record Sound (e : Environment) (s : State numberCells) : Type 0 where
   pub ten : length (s .registers) ≡ 10
   pub cells : SoundCells (s .cells)
   -- everything fits its buffer
@@ -33,7 +33,7 @@ pub record Sound (e : Environment) (s : State (cells ℕ)) : Type 0 where
   -- the output is the first part of what stands in its buffer
   pub first : take (length (s .output)) (s .written) ≡ s .output
 
-pub record GuardedSound (e : Environment) (q : GuardedState (cells ℕ)) : Type 0 where
+pub record GuardedSound (e : Environment) (q : GuardedState numberCells markCells) : Type 0 where
   pub plain : Sound e (q .plain)
   pub ten : length (q .marks .registers) ≡ 10
   -- each present cell, and no other, has a mark, 0 or 1
@@ -41,16 +41,16 @@ pub record GuardedSound (e : Environment) (q : GuardedState (cells ℕ)) : Type 
   pub zeroOrOne : (a t : ℕ) → get (q .marks .cells) a ≡ present t → t ≤ 1
   -- each marked number is below p
   pub registersBelow : (r : ℕ) → registerMark (q .marks .registers) r ≡ true → getD (q .plain .registers) r 0 < p
-  pub cellsBelow : (a v : ℕ) → cellMark (cells ℕ) (q .marks .cells) a ≡ true → get (q .plain .cells) a ≡ present v → v < p
+  pub cellsBelow : (a v : ℕ) → cellMark markCells (q .marks .cells) a ≡ true → get (q .plain .cells) a ≡ present v → v < p
 
 -- The theorems: a step from a sound state leaves a sound one, and so does every run, refused or not
 
 pub record KeepsSound (e : Environment) : Type 0 where
-  pub step : (s : State (cells ℕ)) → Sound e s → (n : Next (cells ℕ)) → Plain.step (cells ℕ) e s ≡ pass n → Sound e (n .state)
-  pub run : (budget : ℕ) (s : State (cells ℕ)) → Sound e s → Sound e (Plain.run (cells ℕ) e budget s .state)
-  pub guardedStep : (q : GuardedState (cells ℕ)) → GuardedSound e q → (n : GuardedNext (cells ℕ)) → Guarded.guardedStep (cells ℕ) e q ≡ passes n
+  pub step : (s : State numberCells) → Sound e s → (n : Next numberCells) → Plain.step numberCells e s ≡ pass n → Sound e (n .state)
+  pub run : (budget : ℕ) (s : State numberCells) → Sound e s → Sound e (Plain.run numberCells e budget s .state)
+  pub guardedStep : (q : GuardedState numberCells markCells) → GuardedSound e q → (n : GuardedNext numberCells markCells) → Guarded.guardedStep numberCells markCells e q ≡ passes n
       → GuardedSound e (record { plain = n .next .state; marks = n .marks })
-  pub guardedRun : (budget : ℕ) (q : GuardedState (cells ℕ)) → GuardedSound e q → GuardedSound e (Guarded.guardedRun (cells ℕ) e budget q .state)
+  pub guardedRun : (budget : ℕ) (q : GuardedState numberCells markCells) → GuardedSound e q → GuardedSound e (Guarded.guardedRun numberCells markCells e budget q .state)
 
 -- what passes entry stands for a sound state; a machine has ten registers by its type
 pub record EntersSound (program : List Instruction) : Type 0 where
