@@ -111,7 +111,7 @@ guarded-twice g q h l (guarded-behind {u = u} b) =
     record {
       plain = left-twice (g .plain) h b i;
       marks = sym (covered contents length-contents (q .marks .cells) (u .cells) (g .marks) l) i;
-      registerMarks = wordOfBits (u .registers);
+      extras = record { registers = wordOfBits (u .registers) };
     }
 
 guarded-passes : (program : List Instruction) (g : GuardedSnapshot) (n : ℕ) → guardedEntry g ≡ true

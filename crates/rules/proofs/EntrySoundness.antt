@@ -105,7 +105,7 @@ guarded-entry-sound program g ten t =
     let l : length (usedNumbers s) ≡ length (usedAddresses s) = used-lengths n (s .numbers) (s .addresses) numbers in
     record {
       plain = entry-sound program s ten own;
-      ten = length-lowBits 10 (g .registerMarks);
+      ten = length-lowBits 10 (g .extras .registers);
       addresses = addresses-zipped (usedAddresses s) (usedMarks g) (omega arith) ∙ sym (addresses-zipped (usedAddresses s) (usedNumbers s) (omega arith));
       zeroOrOne = λ a t e. leb-true t 1 (zipped-every (λ t. leb t 1) (usedAddresses s) (usedMarks g) bits a t e);
       registersBelow = markedBelow-at (markedRegisters g) (s .machine .registers) (all-at _ below 0);

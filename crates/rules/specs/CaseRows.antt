@@ -95,7 +95,7 @@ guardedSnapshot s =
         output = replicate (s .free .output) 0;
       };
       marks = map (λ k. k .mark) (s .cells) ++ replicate (s .free .cells) 0;
-      registerMarks = s .marks;
+      extras = record { registers = s .marks };
     }
 
 abbrev pub snapshot : Start → Snapshot

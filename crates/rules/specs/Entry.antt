@@ -5,6 +5,7 @@ use mathlib.Core.List.{List, [], _∷_, map}
 use lib.Dec.{ltb, leb, eqb}
 use lib.ListN.{length, take}
 use Rattle.rules.specs.declared.Machine.{Machine}
+use Rattle.rules.specs.declared.Marks.{Marks}
 use Rattle.rules.specs.declared.Instruction.{Instruction}
 use Rattle.rules.specs.Numbers.{p, heapEnd, clockEnd, cellLimit, valueLimit, bit}
 use Rattle.rules.specs.Cells as Cells
@@ -20,11 +21,11 @@ pub record Snapshot : Type 0 where
   pub tape : List ℕ
   pub output : List ℕ
 
--- for a guarded run also the cells' marks, and a word whose bit r is the mark of register r
+-- for a guarded run also the cells' marks, and the registers': bit r of a word is the mark of register r
 pub record GuardedSnapshot : Type 0 where
   pub plain : Snapshot
   pub marks : List ℕ
-  pub registerMarks : ℕ
+  pub extras : Marks
 
 -- The used parts: each buffer as far as its count and its length go
 
@@ -54,7 +55,7 @@ wordOfBits (b ∷ bs) = bit b + 2 * wordOfBits bs
 
 -- the marks of R0 to R9, and of the used cells
 abbrev pub markedRegisters : GuardedSnapshot → List Bool
-markedRegisters g = lowBits 10 (g .registerMarks)
+markedRegisters g = lowBits 10 (g .extras .registers)
 
 abbrev pub markedCells : GuardedSnapshot → List Bool
 markedCells g = map (λ t. eqb t 1) (usedMarks g)
@@ -111,7 +112,7 @@ marksEntry g =
     all
     (eqb (length (g .marks)) (length (g .plain .addresses))
     ∷ every (λ t. leb t 1) (usedMarks g)
-    ∷ ltb (g .registerMarks) 1024
+    ∷ ltb (g .extras .registers) 1024
     ∷ markedNumbersBelow g
     ∷ [])
 
@@ -176,5 +177,5 @@ guardedSnapshotAfter g q =
     record {
       plain = snapshotAfter (g .plain) (q .plain);
       marks = overlay (Cells.contents (q .marks .cells)) (g .marks);
-      registerMarks = wordOfBits (q .marks .registers);
+      extras = record { registers = wordOfBits (q .marks .registers) };
     }

@@ -189,7 +189,7 @@ abbrev markedRow : List ℕ → ℕ → Meaning → ℕ → Row
 markedRow ts r answer steps =
     row
     (guardedWords (0xb ∷ []) 1
-    (record { plain = withCells (5 ∷ 6 ∷ 0 ∷ []) (0xFFFFFFFF00000000 ∷ 0xFFFFFFFF00000001 ∷ 0 ∷ []); marks = ts; registerMarks = r }))
+    (record { plain = withCells (5 ∷ 6 ∷ 0 ∷ []) (0xFFFFFFFF00000000 ∷ 0xFFFFFFFF00000001 ∷ 0 ∷ []); marks = ts; extras = record { registers = r } }))
     nothing
     answer
     steps

@@ -62,7 +62,7 @@ pub record Agree (R : Bool → ℕ → ℕ → Type 0) (g h : GuardedSnapshot) :
   pub output : usedOutput (g .plain) ≡ usedOutput (h .plain)
   pub numbers : (i : ℕ) → R (getD (markedCells g) i false) (getD (usedNumbers (g .plain)) i 0) (getD (usedNumbers (h .plain)) i 0)
   -- the ten registers
-  pub registerMarks : g .registerMarks ≡ h .registerMarks
+  pub registerMarks : g .extras .registers ≡ h .extras .registers
   pub ten : (length (g .plain .machine .registers) ≡ 10) × (length (h .plain .machine .registers) ≡ 10)
   pub registers : (r : ℕ) → R (getD (markedRegisters g) r false) (getD (g .plain .machine .registers) r 0) (getD (h .plain .machine .registers) r 0)
 

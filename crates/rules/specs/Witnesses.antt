@@ -68,7 +68,7 @@ beyond n =
         output = n ∷ [];
       };
       marks = n ∷ n ∷ [];
-      registerMarks = 2;
+      extras = record { registers = 2 };
     }
 
 -- R1 to cell 6, which takes one place of the cells' buffers

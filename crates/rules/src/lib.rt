@@ -104,3 +104,16 @@ pub struct Machine {
     pub tape_count: usize,
     pub output_count: usize,
 }
+
+// What a guarded run has beside the machine and the buffers: bit r of `registers` is the mark of register r.
+pub struct Marks {
+    pub registers: u64,
+}
+
+// What a run gives: its answer, its steps, and the machine and marks that it leaves. A plain run leaves no marks.
+pub struct Ran {
+    pub answer: Answer,
+    pub steps: u64,
+    pub machine: Machine,
+    pub extras: Marks,
+}
