@@ -9,7 +9,7 @@ use Rattle.rules.specs.declared.Refusal.the-variants.{NoCapacity}
 use Rattle.rules.specs.Numbers.{p}
 use Rattle.rules.specs.Results.{GuardedResult, passes, after, guard}
 use Rattle.rules.specs.Cells.{count, numberCells, markCells}
-use Rattle.rules.specs.Opcodes.{Class, field, equality, small, complement, move, assert, rangeCheck, jump, conditionalJump, call, return, load, store, tapeLoad, tapeStore, contractCall, end, uncovered, classOf}
+use Rattle.rules.specs.Opcodes.{Class, addition, multiplication, equality, small, complement, move, assert, rangeCheck, jump, conditionalJump, call, return, load, store, tapeLoad, tapeStore, contractCall, end, uncovered, classOf}
 use Rattle.rules.specs.Operands.{fetch, wantsOf, Operands, operands}
 use Rattle.rules.specs.Step.{Environment, State, Next, fits, capacity, Ran}
 use Rattle.rules.specs.Guarded.{operandMark, sinksOf, operandSink, MarkState, readSink, marksAfter, GuardedState, GuardedNext, guardedRest, guardedStep, onGuardedStep, guardedRun}
@@ -44,7 +44,8 @@ use Rattle.rules.proofs.AlikeSteps.{
 
 -- the field operations stay below p
 abbrev Bounded : Class → Type 0
-Bounded (field f) = (a b : ℕ) → f a b < p
+Bounded addition = (a b : ℕ) → fieldAdd a b < p
+Bounded multiplication = (a b : ℕ) → fieldMul a b < p
 Bounded (equality f) = Unit {0}
 Bounded (small f) = Unit {0}
 Bounded complement = Unit {0}
@@ -108,7 +109,8 @@ module _ (e : Environment) (t : MarkState markCells) (i : Instruction) {s u : St
 
   agreed : (c : Class) → Bounded c → {o q : Operands} → OperandsRelated t c i o q → operandSink (t .registers) c i ≡ false → Agreed e t c i s u o q
   unfolding operandSink sinksOf wantsOf
-  agreed (field f) l r k = on-field e t i n f l r
+  agreed addition l r k = on-field e t i n fieldAdd l r
+  agreed multiplication l r k = on-field e t i n fieldMul l r
   agreed (equality f) l r k = on-equality e t i n f r
   agreed (small f) l {o} r k =
       let a : marked0 ≡ false = or-left _ _ k in

@@ -11,7 +11,7 @@ use Rattle.rules.specs.declared.Refusal.the-variants.{NotInField, NotSma
 use Rattle.rules.specs.Numbers.{p, choose, bit}
 use Rattle.rules.specs.Field.{fieldAdd, fieldComplement}
 use Rattle.rules.specs.Cells.{Cells, put, numberCells, markCells}
-use Rattle.rules.specs.Opcodes.{Class, field, equality, small, complement, move, assert, rangeCheck, jump, conditionalJump, call, return, load, store, tapeLoad, tapeStore, contractCall, end, uncovered}
+use Rattle.rules.specs.Opcodes.{Class, addition, multiplication, equality, small, complement, move, assert, rangeCheck, jump, conditionalJump, call, return, load, store, tapeLoad, tapeStore, contractCall, end, uncovered}
 use Rattle.rules.specs.Operands.{binaryLength, wantsOf, Operands, operands}
 use Rattle.rules.specs.Step.{Environment, State, Finish, r9, nextPc, readBelow, storeMany, storeOne, onTape, tapeValues, wraps, overlay, writesRegister, writesCells, writesTape, operate}
 use Rattle.rules.specs.Guarded.{registerMark, operandMark, MarkState, cellMark, readSink, marksRegister, marksCell, cleanMany, marksAfter}
@@ -158,7 +158,8 @@ module _ (e : Environment) (t : MarkState markCells) (i : Instruction) {s u : St
   unfolding readSink marksAfter operate wantsOf
   on-field f l {o} {q} r =
       let z : o .dst ≡ q .dst = unmarked refl (r .dst) in
-      subst (λ d. Agreed e t (field f) i s u o (record { op0 = q .op0; op1 = q .op1; dst = d })) z
+      subst (λ d. Agreed e t addition i s u o (record { op0 = q .op0; op1 = q .op1; dst = d })) z
+      subst (λ d. Agreed e t multiplication i s u o (record { op0 = q .op0; op1 = q .op1; dst = d })) z
       (record {
         sinks = refl;
         marks = refl;

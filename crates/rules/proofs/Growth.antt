@@ -10,7 +10,7 @@ use Rattle.rules.specs.Numbers.{choose}
 use Rattle.rules.specs.Results.{Result, GuardedResult}
 use Rattle.rules.specs.Cells.{Cells, get, put, count, Rising, numberCells, markCells}
 use Rattle.rules.specs.PlainMap.{isPresent}
-use Rattle.rules.specs.Opcodes.{Class, field, equality, small, complement, move, assert, rangeCheck, jump, conditionalJump, call, return, load, store, tapeLoad, tapeStore, contractCall, end, uncovered, classOf}
+use Rattle.rules.specs.Opcodes.{Class, addition, multiplication, equality, small, complement, move, assert, rangeCheck, jump, conditionalJump, call, return, load, store, tapeLoad, tapeStore, contractCall, end, uncovered, classOf}
 use Rattle.rules.specs.Operands.{Operands}
 use Rattle.rules.specs.Step.{Environment, State, Next, storeMany, operate, capacity, step, Ran, onStep, run}
 use Rattle.rules.specs.Guarded.{GuardedState, GuardedNext, guardedRest, guardedStep, onGuardedStep, guardedRun}
@@ -57,7 +57,8 @@ module _ (e : Environment) (i : Instruction) (s : State numberCells) (o : Operan
 
   operate-grows : (c : Class) → Passing (λ n. Grown s (n .state)) (operate numberCells e c i s o)
   unfolding operate
-  operate-grows (field f) = passing-require _ λ a. passing-require _ λ b. passed (record { cells = le _; tape = le _ })
+  operate-grows addition = passing-require _ λ a. passing-require _ λ b. passed (record { cells = le _; tape = le _ })
+  operate-grows multiplication = passing-require _ λ a. passing-require _ λ b. passed (record { cells = le _; tape = le _ })
   operate-grows (equality f) = passed (record { cells = le _; tape = le _ })
   operate-grows (small f) = passing-require _ λ a. passing-require _ λ b. passed (record { cells = le _; tape = le _ })
   operate-grows complement = passing-require _ λ a. passed (record { cells = le _; tape = le _ })

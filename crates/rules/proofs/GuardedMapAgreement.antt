@@ -6,7 +6,7 @@ use Rattle.rules.specs.declared.Instruction.{Instruction}
 use Rattle.rules.specs.Results.{GuardedResult}
 use Rattle.rules.specs.Cells.{Cells, numberCells, markCells}
 use Rattle.rules.specs.PlainMap.{PlainMap, numberMap, markMap}
-use Rattle.rules.specs.Opcodes.{Class, field, equality, small, complement, move, assert, rangeCheck, jump, conditionalJump, call, return, load, store, tapeLoad, tapeStore, contractCall, end, uncovered, classOf}
+use Rattle.rules.specs.Opcodes.{Class, addition, multiplication, equality, small, complement, move, assert, rangeCheck, jump, conditionalJump, call, return, load, store, tapeLoad, tapeStore, contractCall, end, uncovered, classOf}
 use Rattle.rules.specs.Operands.{Operands}
 use Rattle.rules.specs.Step.{Environment, State, r9, Ran}
 use Rattle.rules.specs.Guarded.{MarkState, slotMark, cellMark, spanMark, readSink, cleanMany, marksAfter, GuardedState, GuardedNext, guardedRest, guardedStep, onGuardedStep, guardedRun}
@@ -43,7 +43,8 @@ marks-with {u = u} h = λ i. record { registers = h .registers i; cells = u .cel
 module _ (i : Instruction) (s : State numberCells) (m : PlainMap ℕ) (o : Operands) (t : MarkState markCells) (n : PlainMap ℕ) (g : SameMemory (t .cells) n) where
   same-read-sink : (c : Class) → readSink numberCells markCells t c i s o ≡ readSink numberMap markMap (marksWith t n) c i (withMap s m) o
   unfolding readSink
-  same-read-sink (field f) = refl
+  same-read-sink addition = refl
+  same-read-sink multiplication = refl
   same-read-sink (equality f) = refl
   same-read-sink (small f) = refl
   same-read-sink complement = refl
@@ -64,7 +65,8 @@ module _ (i : Instruction) (s : State numberCells) (m : PlainMap ℕ) (o : Opera
 
   same-marks-after : (c : Class) → SameMarks (marksAfter numberCells markCells t c i s o) (marksAfter numberMap markMap (marksWith t n) c i (withMap s m) o)
   unfolding marksAfter
-  same-marks-after (field f) = record { registers = refl; cells = g }
+  same-marks-after addition = record { registers = refl; cells = g }
+  same-marks-after multiplication = record { registers = refl; cells = g }
   same-marks-after (equality f) = record { registers = refl; cells = g }
   same-marks-after (small f) = record { registers = refl; cells = g }
   same-marks-after complement = record { registers = refl; cells = g }

@@ -12,7 +12,7 @@ use Rattle.rules.specs.Numbers.{p, choose, bit}
 use Rattle.rules.specs.Results.{pass, GuardedResult, passes}
 use Rattle.rules.specs.Memory.{present}
 use Rattle.rules.specs.Cells.{Cells, none, cell, get, put, addresses, RisingFrom, numberCells, markCells}
-use Rattle.rules.specs.Opcodes.{Class, field, equality, small, complement, move, assert, rangeCheck, jump, conditionalJump, call, return, load, store, tapeLoad, tapeStore, contractCall, end, uncovered, classOf}
+use Rattle.rules.specs.Opcodes.{Class, addition, multiplication, equality, small, complement, move, assert, rangeCheck, jump, conditionalJump, call, return, load, store, tapeLoad, tapeStore, contractCall, end, uncovered, classOf}
 use Rattle.rules.specs.Operands.{Operands}
 use Rattle.rules.specs.Step.{Environment, State, Ran, slotValue}
 use Rattle.rules.specs.Guarded.{registerMark, cellMark, MarkState, cleanMany, marksAfter, GuardedState, GuardedNext, guardedRest, guardedStep, onGuardedStep, guardedRun}
@@ -120,7 +120,8 @@ clean-bits (v ∷ vs) c a h = clean-bits vs (put c a 0) (suc a) (put-bit c a 0 (
 after-bits : (t : MarkState markCells) (c : Class) (i : Instruction) (s : State numberCells) (o : Operands) → ZeroOrOne (t .cells)
     → ZeroOrOne (marksAfter numberCells markCells t c i s o .cells)
 unfolding marksAfter
-after-bits t (field f) i s o h = h
+after-bits t addition i s o h = h
+after-bits t multiplication i s o h = h
 after-bits t (equality f) i s o h = h
 after-bits t (small f) i s o h = h
 after-bits t complement i s o h = h

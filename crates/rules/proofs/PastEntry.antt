@@ -14,7 +14,7 @@ use Rattle.rules.specs.Numbers.{clockEnd}
 use Rattle.rules.specs.Results.{Result, GuardedResult}
 use Rattle.rules.specs.Field.{fieldAdd, fieldMul}
 use Rattle.rules.specs.Memory.{Slot, absent, present, Memory}
-use Rattle.rules.specs.Opcodes.{Class, field, equality, small, complement, move, assert, rangeCheck, jump, conditionalJump, call, return, load, store, tapeLoad, tapeStore, contractCall, end, uncovered}
+use Rattle.rules.specs.Opcodes.{Class, addition, multiplication, equality, small, complement, move, assert, rangeCheck, jump, conditionalJump, call, return, load, store, tapeLoad, tapeStore, contractCall, end, uncovered}
 use Rattle.rules.specs.Operands.{binaryLength, instructionAt, fetch, Want, ignored, lacking, value, register, target, inField, valueOf, targetOf, absence, operand, Operands, operands}
 use Rattle.rules.specs.Step.{Environment, State, Next, Finish, goesOn, ends, calls, delegates, Ran, onClock, onFinish, r9, slotValue, read, readBelow, readMany, readSpan, storeMany, operate, capacity, step, onStep, run}
 use Rattle.rules.specs.Guarded.{MarkState, GuardedState, GuardedNext, guardedRest, guardedStep, onGuardedStep, guardedRun}
@@ -132,7 +132,8 @@ module _ (numberMemory markMemory : Memory ℕ) where
   module _ (e : Environment) where
     operated : (c : Class) (i : Instruction) (s : State numberMemory) (o : Operands) → Refusing AtStep (operate numberMemory e c i s o)
     unfolding operate refusalMeaning
-    operated (field f) i s o = refusing-require _ _ refl (refusing-require _ _ refl passed)
+    operated addition i s o = refusing-require _ _ refl (refusing-require _ _ refl passed)
+    operated multiplication i s o = refusing-require _ _ refl (refusing-require _ _ refl passed)
     operated (equality f) i s o = passed
     operated (small f) i s o = refusing-require _ _ refl (refusing-require _ _ refl passed)
     operated complement i s o = refusing-require _ _ refl passed

@@ -10,7 +10,7 @@ use Rattle.rules.specs.Results.{Result, pass, require}
 use Rattle.rules.specs.Memory.{present}
 use Rattle.rules.specs.Cells.{Cells, put, Rising, numberCells}
 use Rattle.rules.specs.PlainMap.{PlainMap, mapPut, numberMap}
-use Rattle.rules.specs.Opcodes.{Class, field, equality, small, complement, move, assert, rangeCheck, jump, conditionalJump, call, return, load, store, tapeLoad, tapeStore, contractCall, end, uncovered, classOf}
+use Rattle.rules.specs.Opcodes.{Class, addition, multiplication, equality, small, complement, move, assert, rangeCheck, jump, conditionalJump, call, return, load, store, tapeLoad, tapeStore, contractCall, end, uncovered, classOf}
 use Rattle.rules.specs.Operands.{Operands}
 use Rattle.rules.specs.Step.{Environment, State, Next, slotValue, r9, read, readBelow, readMany, readSpan, storeMany, operate, fits, capacity, step, Ran, onStep, run}
 use Rattle.rules.specs.Relations.{Both, both-refused, passed, BothRan}
@@ -80,7 +80,8 @@ module _ (e : Environment) (i : Instruction) (s : State numberCells) (m : PlainM
 
   pub same-operate : (c : Class) → Both SameNext (operate numberCells e c i s o) (operate numberMap e c i (withMap s m) o)
   unfolding operate
-  same-operate (field f) = both-require NotInField refl (both-require NotInField refl (moved (same-with h) refl))
+  same-operate addition = both-require NotInField refl (both-require NotInField refl (moved (same-with h) refl))
+  same-operate multiplication = both-require NotInField refl (both-require NotInField refl (moved (same-with h) refl))
   same-operate (equality f) = moved (same-with h) refl
   same-operate (small f) = both-require NotSmall refl (both-require NotSmall refl (moved (same-with h) refl))
   same-operate complement = both-require NotInField refl (moved (same-with h) refl)

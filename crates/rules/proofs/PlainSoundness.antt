@@ -12,7 +12,7 @@ use Rattle.rules.specs.Numbers.{p, heapEnd, choose}
 use Rattle.rules.specs.Results.{Result}
 use Rattle.rules.specs.Memory.{present}
 use Rattle.rules.specs.Cells.{Cells, get, put, count, numberCells}
-use Rattle.rules.specs.Opcodes.{Class, field, equality, small, complement, move, assert, rangeCheck, jump, conditionalJump, call, return, load, store, tapeLoad, tapeStore, contractCall, end, uncovered, classOf}
+use Rattle.rules.specs.Opcodes.{Class, addition, multiplication, equality, small, complement, move, assert, rangeCheck, jump, conditionalJump, call, return, load, store, tapeLoad, tapeStore, contractCall, end, uncovered, classOf}
 use Rattle.rules.specs.Operands.{Operands}
 use Rattle.rules.specs.Step.{Environment, State, Next, storeMany, writesRegister, writesCells, operate, capacity, step, Ran, onStep, run}
 use Rattle.rules.specs.Soundness.{SoundCells, Sound}
@@ -65,7 +65,8 @@ module _ (e : Environment) (i : Instruction) (s : State numberCells) (o : Operan
 
   pub operate-keeps : (c : Class) → Passing (λ n. Kept e (n .state)) (operate numberCells e c i s o)
   unfolding operate
-  operate-keeps (field f) = passing-require _ λ a. passing-require _ λ b. passed (register-kept _ _ _)
+  operate-keeps addition = passing-require _ λ a. passing-require _ λ b. passed (register-kept _ _ _)
+  operate-keeps multiplication = passing-require _ λ a. passing-require _ λ b. passed (register-kept _ _ _)
   operate-keeps (equality f) = passed (register-kept _ _ _)
   operate-keeps (small f) = passing-require _ λ a. passing-require _ λ b. passed (register-kept _ _ _)
   operate-keeps complement = passing-require _ λ a. passed (register-kept _ _ _)

@@ -11,7 +11,7 @@ use Rattle.rules.specs.declared.Answer.the-variants.{MarkedSink}
 use Rattle.rules.specs.Numbers.{clockEnd}
 use Rattle.rules.specs.Results.{Result, refuse, pass, GuardedResult, refuses, sink, passes}
 use Rattle.rules.specs.Cells.{numberCells, markCells}
-use Rattle.rules.specs.Opcodes.{Class, field, equality, small, complement, move, assert, rangeCheck, jump, conditionalJump, call, return, load, store, tapeLoad, tapeStore, contractCall, end, uncovered, classOf}
+use Rattle.rules.specs.Opcodes.{Class, addition, multiplication, equality, small, complement, move, assert, rangeCheck, jump, conditionalJump, call, return, load, store, tapeLoad, tapeStore, contractCall, end, uncovered, classOf}
 use Rattle.rules.specs.Operands.{Operands}
 use Rattle.rules.specs.Step.{Environment, State, Finish, goesOn, ends, calls, delegates, Next, step, Ran, afterStep, onClock, onFinish}
 use Rattle.rules.specs.Guarded.{MarkState, marksAfter, GuardedState, GuardedNext, guardedRest, guardedStep, onGuardedStep, guardedRun}
@@ -30,7 +30,8 @@ at s t = record { plain = s; marks = t }
 marks-length : (t : MarkState markCells) (c : Class) (i : Instruction) (s : State numberCells) (o : Operands)
     → length (marksAfter numberCells markCells t c i s o .registers) ≡ length (t .registers)
 unfolding marksAfter
-marks-length t (field f) i s o = length-set (t .registers) (o .dst) _
+marks-length t addition i s o = length-set (t .registers) (o .dst) _
+marks-length t multiplication i s o = length-set (t .registers) (o .dst) _
 marks-length t (equality f) i s o = length-set (t .registers) (o .dst) _
 marks-length t (small f) i s o = length-set (t .registers) (o .dst) _
 marks-length t complement i s o = length-set (t .registers) (o .dst) _

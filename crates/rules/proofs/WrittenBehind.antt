@@ -6,7 +6,7 @@ use Rattle.rules.specs.declared.Instruction.{Instruction}
 use Rattle.rules.specs.declared.Refusal.the-variants.{NotInField, NotSmall, AssertFailed, RangeCheckFailed, TapeFault, StoreFault, NoCapacity}
 use Rattle.rules.specs.Results.{Result, GuardedResult}
 use Rattle.rules.specs.Cells.{numberCells, markCells}
-use Rattle.rules.specs.Opcodes.{Class, field, equality, small, complement, move, assert, rangeCheck, jump, conditionalJump, call, return, load, store, tapeLoad, tapeStore, contractCall, end, uncovered, classOf}
+use Rattle.rules.specs.Opcodes.{Class, addition, multiplication, equality, small, complement, move, assert, rangeCheck, jump, conditionalJump, call, return, load, store, tapeLoad, tapeStore, contractCall, end, uncovered, classOf}
 use Rattle.rules.specs.Operands.{Operands}
 use Rattle.rules.specs.Step.{Environment, State, Next, overlay, operate, capacity, step, Ran, onStep, run}
 use Rattle.rules.specs.Guarded.{MarkState, readSink, marksAfter, GuardedState, GuardedNext, guardedRest, guardedStep, onGuardedStep, guardedRun}
@@ -37,7 +37,8 @@ pub data NextBehind (w : List ℕ) : Next numberCells → Next numberCells → T
 module _ (w : List ℕ) (e : Environment) (i : Instruction) (s : State numberCells) (v : List ℕ) (o : Operands) (h : s .written ≡ overlay v w) where
   operate-behind : (c : Class) → Both (NextBehind w) (operate numberCells e c i s o) (operate numberCells e c i (withWritten s v) o)
   unfolding operate
-  operate-behind (field f) = both-require NotInField refl (both-require NotInField refl (passed (next-behind v h)))
+  operate-behind addition = both-require NotInField refl (both-require NotInField refl (passed (next-behind v h)))
+  operate-behind multiplication = both-require NotInField refl (both-require NotInField refl (passed (next-behind v h)))
   operate-behind (equality f) = passed (next-behind v h)
   operate-behind (small f) = both-require NotSmall refl (both-require NotSmall refl (passed (next-behind v h)))
   operate-behind complement = both-require NotInField refl (passed (next-behind v h))
@@ -61,7 +62,8 @@ module _ (w : List ℕ) (e : Environment) (i : Instruction) (s : State numberCel
 
   sinks-behind : (t : MarkState markCells) (c : Class) → readSink numberCells markCells t c i s o ≡ readSink numberCells markCells t c i (withWritten s v) o
   unfolding readSink
-  sinks-behind t (field f) = refl
+  sinks-behind t addition = refl
+  sinks-behind t multiplication = refl
   sinks-behind t (equality f) = refl
   sinks-behind t (small f) = refl
   sinks-behind t complement = refl
@@ -82,7 +84,8 @@ module _ (w : List ℕ) (e : Environment) (i : Instruction) (s : State numberCel
 
   marks-behind : (t : MarkState markCells) (c : Class) → marksAfter numberCells markCells t c i s o ≡ marksAfter numberCells markCells t c i (withWritten s v) o
   unfolding marksAfter
-  marks-behind t (field f) = refl
+  marks-behind t addition = refl
+  marks-behind t multiplication = refl
   marks-behind t (equality f) = refl
   marks-behind t (small f) = refl
   marks-behind t complement = refl
