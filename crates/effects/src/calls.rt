@@ -2,7 +2,7 @@
 use crate::Effect;
 use crate::memory;
 use hardware::cells;
-use hardware::cells::Found;
+use hardware::cells::Pair;
 use rules::Refusal;
 ghost use mathlib.Core.List.{List};
 ghost use Prim.Native.Nat.{ℕ, _-_};
@@ -13,24 +13,24 @@ ghost use Rattle.effects.specs.Changes.{returnsFrom};
 ghost use Rattle.effects.specs.Operations.{withMark, hasCapacity, callsWhere};
 
 // CALL: the next pc goes below R9.
-pub fn call(frame: u64, addresses: &[u64], count: usize, target: u64, next: u64) -> Effect
+pub fn call(target: u64, next: u64, frame: u64, count: usize, addresses: &[u64]) -> Effect
     requires { ⌜ Rising count (now addresses) ⌝ }
     ensures { λ r. ⌜ Means (take count (now (addresses .entry))) r (λ t. callsWhere (hasCapacity (now (addresses .entry)) count (frame - 1) 1) frame next t target) ⌝ }
 {
     if frame == 0 {
         return Effect::refuse(Refusal::StoreFault);
     }
-    memory::store_cell(addresses, count, frame - 1, next, target)
+    memory::store_cell(frame - 1, next, target, count, addresses)
 }
 
-// RET: the pc from below R9, R9 from below that. The two cells stand side by side.
+// RET: the pc from below R9, R9 from below that.
 pub fn return_from(
     guarded: bool,
     frame: u64,
+    count: usize,
     addresses: &[u64],
     numbers: &[u64],
     marks: &[u64],
-    count: usize,
 ) -> Effect
     requires { ⌜ Ordered guarded count (now addresses) (now numbers) (now marks) ⌝ }
     ensures { λ r. ⌜ ((l : List ℕ) → Means l r (λ t. withMark t (returnsFrom guarded (cellsOf count (now (addresses .entry)) (now (numbers .entry))) (cellsOf count (now (addresses .entry)) (now (marks .entry))) frame))) ⌝ }
@@ -38,21 +38,18 @@ pub fn return_from(
     if frame < 2 {
         return Effect::refuse(Refusal::CellAbsent);
     }
-    match cells::find(addresses, count, frame - 2) {
-        Found::Absent(_) => Effect::refuse(Refusal::CellAbsent),
-        Found::At(at) => {
-            if count - at < 2 {
-                return Effect::refuse(Refusal::CellAbsent);
+    match cells::read_pair(guarded, count, frame - 2, addresses, numbers, marks) {
+        Pair::Absent => Effect::refuse(Refusal::CellAbsent),
+        Pair::Present {
+            low,
+            low_marked,
+            high,
+            high_marked,
+        } => {
+            if high_marked {
+                return Effect::sink();
             }
-            if addresses[at + 1] != frame - 1 {
-                return Effect::refuse(Refusal::CellAbsent);
-            }
-            if guarded {
-                if marks[at + 1] == 1 {
-                    return Effect::sink();
-                }
-            }
-            Effect::set_register(9, numbers[at], guarded && marks[at] == 1, numbers[at + 1])
+            Effect::set_register(9, low, low_marked, high)
         }
     }
 }

@@ -5,10 +5,11 @@
 pub mod arithmetic;
 pub mod calls;
 pub mod control;
-pub mod memory;
 pub mod marks;
+pub mod memory;
 pub mod tape;
 
+use rules::Marks;
 use rules::Refusal;
 ghost use mathlib.Core.Path.{_≡_};
 ghost use mathlib.Core.Bool.{_||_};
@@ -18,10 +19,10 @@ ghost use Rattle.hardware.specs.declared.cells.Found.the-variants as Found;
 ghost use Rattle.hardware.specs.Buffers.{foundOf};
 ghost use Rattle.effects.specs.Effects.{SetRegister, Store, Jump, LoadTape, StoreTape, CallContract, End, Refuse, Sink, Means};
 
-// What is run: the plain machine, or the guarded one with the marks of its registers, bit r for register r.
+// Which run it is, and the guarded run's extras; a plain run has no marks.
 pub struct Mode {
     pub guarded: bool,
-    pub register_marks: u64,
+    pub extras: Marks,
 }
 
 // How many cells, tape values and output values are used.

@@ -18,7 +18,7 @@ pub fn is_operand_sink(mode: Mode, rows: &[u16], row: Row) -> bool
     if !mode.guarded {
         return false;
     }
-    marks::is_any(mode.register_marks, row.sinks(rows))
+    marks::is_any(mode.extras.registers, row.sinks(rows))
 }
 
 // Is a register marked that a step's number is made of? No test of the mode here, between a step's decision and its writing: in a plain
@@ -28,16 +28,16 @@ pub fn is_source_marked(mode: Mode, rows: &[u16], row: Row) -> bool
     requires { ⌜ Clean mode ⌝ }
     ensures { λ r. ⌜ r ≡ sourcesMarked mode (now (rows .entry)) row ⌝ }
 {
-    marks::is_any(mode.register_marks, row.sources(rows))
+    marks::is_any(mode.extras.registers, row.sources(rows))
 }
 
 // Is one of the n cells from a place on marked, in a guarded run?
-pub fn is_part_marked(guarded: bool, marks: &[u64], at: usize, n: usize) -> bool
+pub fn is_part_marked(guarded: bool, at: usize, n: usize, marks: &[u64]) -> bool
     requires { ⌜ (guarded ≡ true → at + n ≤ length (now marks)) ⌝ }
     ensures { λ r. ⌜ r ≡ partMark guarded (now (marks .entry)) at n ⌝ }
 {
     if !guarded {
         return false;
     }
-    cells::any_marked(marks, at, n)
+    cells::any_marked(at, n, marks)
 }

@@ -44,13 +44,13 @@ pub fn test_store(address: u64, number: u64) -> Tested
 }
 
 // One number to one cell, for CALL and MSTORE.
-pub fn store_cell(addresses: &[u64], count: usize, address: u64, number: u64, next: u64) -> Effect
+pub fn store_cell(address: u64, number: u64, next: u64, count: usize, addresses: &[u64]) -> Effect
     requires { ⌜ Rising count (now addresses) ⌝ }
     ensures { λ r. ⌜ Means (take count (now (addresses .entry))) r (λ t. storesWhere (hasCapacity (now (addresses .entry)) count address 1) address number t next) ⌝ }
 {
     match test_store(address, number) {
         Tested::Refused(f) => Effect::refuse(f),
-        Tested::Passes => match cells::find(addresses, count, address) {
+        Tested::Passes => match cells::find(count, address, addresses) {
             Found::At(at) => Effect::store_at(at, address, number, next),
             Found::Absent(at) => {
                 if count < addresses.len() {
@@ -68,10 +68,10 @@ pub fn load(
     address: FieldElement,
     register: usize,
     next: u64,
+    count: usize,
     addresses: &[u64],
     numbers: &[u64],
     marks: &[u64],
-    count: usize,
 ) -> Effect
     requires { ⌜ Ordered guarded count (now addresses) (now numbers) (now marks) ⌝ }
     ensures { λ r. ⌜ ((l : List ℕ) → Means l r (λ t. withMark t (loadsAt (cellOf guarded (cellsOf count (now (addresses .entry)) (now (numbers .entry))) (cellsOf count (now (addresses .entry)) (now (marks .entry)))) address register next))) ⌝ }
@@ -79,7 +79,7 @@ pub fn load(
     let FieldElement::Element(x) = address else {
         return Effect::refuse(Refusal::NotInField);
     };
-    match cells::read(guarded, addresses, numbers, marks, count, x.value) {
+    match cells::read(guarded, count, x.value, addresses, numbers, marks) {
         Cell::Present { number, marked } => Effect::set_register(register, number, marked, next),
         Cell::Absent => Effect::refuse(Refusal::CellAbsent),
     }
@@ -90,8 +90,8 @@ pub fn store(
     address: FieldElement,
     number: u64,
     next: u64,
-    addresses: &[u64],
     count: usize,
+    addresses: &[u64],
 ) -> Effect
     requires { ⌜ Rising count (now addresses) ⌝ }
     ensures { λ r. ⌜ Means (take count (now (addresses .entry))) r (λ t. storesAt (now (addresses .entry)) count address number t next) ⌝ }
@@ -99,5 +99,5 @@ pub fn store(
     let FieldElement::Element(x) = address else {
         return Effect::refuse(Refusal::NotInField);
     };
-    store_cell(addresses, count, x.value, number, next)
+    store_cell(x.value, number, next, count, addresses)
 }

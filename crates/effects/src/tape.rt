@@ -1,8 +1,8 @@
 // TLOAD, TSTORE and SCCALL.
 use crate::Effect;
+use crate::marks;
 use crate::memory;
 use crate::memory::Tested;
-use crate::marks;
 use hardware::cells;
 use hardware::cells::Span;
 use hardware::regions::Region;
@@ -51,7 +51,7 @@ fn span_fits(start: u64, n: u64) -> bool
 }
 
 // The cells of a span: that it fits is tested before that they are present.
-fn find_cells(addresses: &[u64], count: usize, start: u64, n: u64) -> SpanFound
+fn find_cells(start: u64, n: u64, count: usize, addresses: &[u64]) -> SpanFound
     requires { ⌜ Rising count (now addresses) ⌝ }
     ensures { λ r. ⌜ r ≡ spanAmong (take count (now (addresses .entry))) start n ⌝ }
 {
@@ -61,7 +61,7 @@ fn find_cells(addresses: &[u64], count: usize, start: u64, n: u64) -> SpanFound
     if Region::PROPHET_END <= start {
         return SpanFound::Refused(Refusal::CellAbsent);
     }
-    match cells::find_span(addresses, count, start, n) {
+    match cells::find_span(count, start, n, addresses) {
         Span::At(at) => SpanFound::At(at),
         Span::Absent => SpanFound::Refused(Refusal::CellAbsent),
     }
@@ -73,13 +73,13 @@ pub fn store_tape(
     start: u64,
     n: u64,
     next: u64,
+    count: usize,
+    used: usize,
+    shown: usize,
     addresses: &[u64],
     marks: &[u64],
-    count: usize,
     tape: &[u64],
-    used: usize,
     output: &[u64],
-    shown: usize,
 ) -> Effect
     requires { ⌜ Rising count (now addresses) ⌝ }
     requires { ⌜ (guarded ≡ true → length (now marks) ≡ length (now addresses)) ⌝ }
@@ -87,11 +87,11 @@ pub fn store_tape(
     requires { ⌜ shown ≤ length (now output) ⌝ }
     ensures { λ r. ⌜ ((l : List ℕ) → Means l r (λ t. onSpan (spanAmong (take count (now (addresses .entry))) start n) (λ at. sinkWhere (partMark guarded (now (marks .entry)) at n) (check (more used n (now (tape .entry))) NoCapacity (check (more shown n (now (output .entry))) NoCapacity (StoreTape at n next)))))) ⌝ }
 {
-    match find_cells(addresses, count, start, n) {
+    match find_cells(start, n, count, addresses) {
         SpanFound::Refused(f) => Effect::refuse(f),
         SpanFound::At(at) => {
             let length = n as usize;
-            if marks::is_part_marked(guarded, marks, at, length) {
+            if marks::is_part_marked(guarded, at, length, marks) {
                 return Effect::sink();
             }
             if tape.len() - used < length {
@@ -111,21 +111,21 @@ pub fn call_contract(
     start: u64,
     b: u64,
     next: u64,
+    count: usize,
+    used: usize,
     addresses: &[u64],
     marks: &[u64],
-    count: usize,
     tape: &[u64],
-    used: usize,
 ) -> Effect
     requires { ⌜ Rising count (now addresses) ⌝ }
     requires { ⌜ (guarded ≡ true → length (now marks) ≡ length (now addresses)) ⌝ }
     requires { ⌜ used ≤ length (now tape) ⌝ }
     ensures { λ r. ⌜ ((l : List ℕ) → Means l r (λ t. onSpan (spanAmong (take count (now (addresses .entry))) start 4) (λ at. sinkWhere (partMark guarded (now (marks .entry)) at 4) (check (more used 12 (now (tape .entry))) NoCapacity (CallContract at (eqb b 1) next))))) ⌝ }
 {
-    match find_cells(addresses, count, start, 4) {
+    match find_cells(start, 4, count, addresses) {
         SpanFound::Refused(f) => Effect::refuse(f),
         SpanFound::At(at) => {
-            if marks::is_part_marked(guarded, marks, at, 4) {
+            if marks::is_part_marked(guarded, at, 4, marks) {
                 return Effect::sink();
             }
             if tape.len() - used < 12 {
@@ -183,7 +183,7 @@ fn bound_of(values: &[u64]) -> u64
 }
 
 // The tests of a store of values, cell by cell.
-fn test_each(values: &[u64], start: u64) -> Tested
+fn test_each(start: u64, values: &[u64]) -> Tested
     requires { ⌜ start + length (now values) < wordEnd ⌝ }
     ensures { λ r. ⌜ r ≡ testsOf start (now (values .entry)) ⌝ }
 {
@@ -198,7 +198,7 @@ fn test_each(values: &[u64], start: u64) -> Tested
 }
 
 // The same. Where all cells lie in stack and heap, one number mostly tells that all pass.
-fn test_values(values: &[u64], start: u64) -> Tested
+fn test_values(start: u64, values: &[u64]) -> Tested
     requires { ⌜ start + length (now values) < wordEnd ⌝ }
     ensures { λ r. ⌜ r ≡ testsOf start (now (values .entry)) ⌝ }
 {
@@ -207,18 +207,18 @@ fn test_values(values: &[u64], start: u64) -> Tested
             return Tested::Passes;
         }
     }
-    test_each(values, start)
+    test_each(start, values)
 }
 
 // n values of the tape from a place on go to the cells from an address on.
 fn load_part(
-    tape: &[u64],
     from: usize,
     n: usize,
     address: u64,
-    addresses: &[u64],
-    count: usize,
     next: u64,
+    count: usize,
+    addresses: &[u64],
+    tape: &[u64],
 ) -> Effect
     requires { ⌜ Rising count (now addresses) ⌝ }
     requires { ⌜ from + n ≤ length (now tape) ⌝ }
@@ -228,10 +228,10 @@ fn load_part(
         return Effect::refuse(Refusal::StoreFault);
     }
     let end = from + n;
-    match test_values(&tape[from..end], address) {
+    match test_values(address, &tape[from..end]) {
         Tested::Refused(f) => Effect::refuse(f),
         Tested::Passes => {
-            if cells::has_capacity(addresses, count, address, n) {
+            if cells::has_capacity(count, address, n, addresses) {
                 return Effect::load_tape(from, n, address, next);
             }
             Effect::refuse(Refusal::NoCapacity)
@@ -244,11 +244,11 @@ pub fn load_tape(
     a: u64,
     b: u64,
     address: u64,
-    tape: &[u64],
+    next: u64,
+    count: usize,
     used: usize,
     addresses: &[u64],
-    count: usize,
-    next: u64,
+    tape: &[u64],
 ) -> Effect
     requires { ⌜ Rising count (now addresses) ⌝ }
     requires { ⌜ used ≤ length (now tape) ⌝ }
@@ -259,5 +259,5 @@ pub fn load_tape(
     }
     let from = tape_from(a, b, used);
     let n = tape_count(a, b);
-    load_part(tape, from, n, address, addresses, count, next)
+    load_part(from, n, address, next, count, addresses, tape)
 }

@@ -5,6 +5,7 @@ use goldilocks::GoldilocksField;
 use hardware::cells::Cell;
 use hardware::regions::Region;
 use rules::Machine;
+use rules::Marks;
 ghost use mathlib.Core.Path.{_≡_};
 ghost use mathlib.Core.Bool.{not, _||_};
 ghost use mathlib.Core.List.{List, map};
@@ -14,13 +15,13 @@ ghost use lib.ListN.{take};
 ghost use Rattle.rules.specs.Numbers.{p};
 ghost use Rattle.rules.specs.Entry.{every, risingFrom, lowBits, markedBelow, plainEntry, marksEntry};
 
-// clk has to be below it.
-pub const CLOCK_END: u64 = 1_000_000_000_000;
-
 // The most cells, and the most values of tape or output.
 pub const CELL_LIMIT: usize = 2048;
 
 pub const VALUE_LIMIT: usize = 4096;
+
+// A word of marks, one bit for each of the ten registers, is below it.
+const MARKS_END: u64 = 1024;
 
 // The used part of a buffer: as far as the count and the buffer go.
 fn used(buffer: &[u64], count: usize) -> &[u64]
@@ -119,7 +120,7 @@ pub fn accepts(
 ) -> bool
     ensures { λ r. ⌜ r ≡ plainEntry (record { machine = machine; addresses = now (addresses .entry); numbers = now (numbers .entry); tape = now (tape .entry); output = now (output .entry) }) ⌝ }
 {
-    if CLOCK_END <= machine.clk {
+    if clock::CLOCK_END <= machine.clk {
         return false;
     }
     if addresses.len() < machine.cell_count {
@@ -149,24 +150,24 @@ pub fn accepts(
     at_most(used(numbers, machine.cell_count), Cell::LARGEST)
 }
 
-// Do the marks pass? Bit i of `register_marks` is register i's. Tape and output do not matter.
+// Do the marks pass? Tape and output do not matter.
 pub fn accepts_marks(
     machine: Machine,
-    register_marks: u64,
+    extras: Marks,
     addresses: &[u64],
     numbers: &[u64],
     marks: &[u64],
 ) -> bool
-    ensures { λ r. ⌜ ((tape output : List ℕ) → r ≡ marksEntry (record { plain = record { machine = machine; addresses = now (addresses .entry); numbers = now (numbers .entry); tape = tape; output = output }; marks = now (marks .entry); registerMarks = «register_marks» })) ⌝ }
+    ensures { λ r. ⌜ ((tape output : List ℕ) → r ≡ marksEntry (record { plain = record { machine = machine; addresses = now (addresses .entry); numbers = now (numbers .entry); tape = tape; output = output }; marks = now (marks .entry); extras = extras })) ⌝ }
 {
     if marks.len() != addresses.len() {
         return false;
     }
-    if 1024 <= register_marks {
+    if MARKS_END <= extras.registers {
         return false;
     }
     let registers = machine.registers;
-    if !registers_below(register_marks, registers) {
+    if !registers_below(extras.registers, registers) {
         return false;
     }
     let used_marks = used(marks, machine.cell_count);

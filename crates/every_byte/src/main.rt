@@ -75,6 +75,6 @@ fn show(read: HexWord, in_budget: bool, in_frame: bool) {
 
 fn show_word(v: u64) {
     let mut digits = [0u8; 16];
-    hexadecimal::put_16(&mut digits, 0, v);
+    hexadecimal::put_16(0, v, &mut digits);
     io::write_all(STDOUT_FILENO, &digits);
 }

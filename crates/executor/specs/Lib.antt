@@ -1,2 +1,2 @@
--- What the contracts of `executor` cite beside the rules.
-pub mod Calling
+-- Demand 3 of each public guarded function. The contracts cite the rules alone.
+pub mod GuardedFunctions

@@ -1,8 +1,10 @@
 // Memory cells: a map from address to number, and in a guarded run to a mark, in buffers whose first `count` elements are used; the
 // addresses are strictly rising.
 use crate::tape;
+use goldilocks::GoldilocksField;
 ghost use mathlib.Core.Path.{_≡_};
 ghost use mathlib.Core.Bool.{true};
+ghost use mathlib.Core.List.{_++_};
 ghost use Prim.Native.Nat.{ℕ, _+_, _≤_, _<_};
 ghost use lib.Dec.{leb};
 ghost use lib.ListN.{length, set, take, drop};
@@ -13,7 +15,7 @@ ghost use Rattle.rules.specs.Step.{overlay};
 ghost use Rattle.rules.specs.Guarded.{cleanMany};
 ghost use Rattle.rules.specs.Entry.{risingFrom};
 ghost use Rattle.hardware.specs.declared.cells.Found.the-variants as Found;
-ghost use Rattle.hardware.specs.Buffers.{rank, lastAtMost, foundOf, spanOf, missing, anyMark, cellsOf, cellOf, putMany, Rising, Ordered, Holding};
+ghost use Rattle.hardware.specs.Buffers.{rank, lastAtMost, foundOf, spanOf, missing, anyMark, cellsOf, cellOf, pairOf, putMany, Rising, Ordered, Holding};
 ghost use Rattle.hardware.specs.Places.{insertAt, overwritten, zeros, consecutive, spliced, moved};
 
 // Where an address is, or where it would go.
@@ -30,7 +32,18 @@ pub enum Cell {
 
 impl Cell {
     // The largest number that a cell can hold, which is p.
-    pub const LARGEST: u64 = 0xFFFF_FFFF_0000_0001;
+    pub const LARGEST: u64 = GoldilocksField::ORDER;
+}
+
+// What stands at two addresses that follow each other, where both are present. Marks are told only in a guarded run.
+pub enum Pair {
+    Present {
+        low: u64,
+        low_marked: bool,
+        high: u64,
+        high_marked: bool,
+    },
+    Absent,
 }
 
 // Where the first of a span's cells is, if all are present.
@@ -40,7 +53,7 @@ pub enum Span {
 }
 
 // The place where an address stands if none is missing between the first and this one. Whether it stands there, the caller has to see.
-fn place_without_gaps(used: &[u64], address: u64) -> usize {
+fn place_without_gaps(address: u64, used: &[u64]) -> usize {
     if 0 < used.len() {
         let first = used[0];
         if first <= address {
@@ -52,7 +65,7 @@ fn place_without_gaps(used: &[u64], address: u64) -> usize {
 
 // The last of the rising addresses that is at most another, by its place; 0 where none is. Seven comparisons, added up, tell its eighth: a
 // branch on one of them could not be predicted. Called at two places and too long to be compiled into a step, which would be slower for it.
-fn last_at_most(used: &[u64], address: u64) -> usize
+fn last_at_most(address: u64, used: &[u64]) -> usize
     requires { ⌜ risingFrom 0 (now used) ≡ true ⌝ }
     ensures { λ r. ⌜ r ≡ lastAtMost (now (used .entry)) address ⌝ }
 {
@@ -80,17 +93,17 @@ fn last_at_most(used: &[u64], address: u64) -> usize
 }
 
 // How many of the rising addresses lie below an address. One that stands at its place without gaps needs no search.
-fn rank_of(used: &[u64], address: u64) -> usize
+fn rank_of(address: u64, used: &[u64]) -> usize
     requires { ⌜ risingFrom 0 (now used) ≡ true ⌝ }
     ensures { λ r. ⌜ r ≡ rank (now (used .entry)) address ⌝ }
 {
-    let near = place_without_gaps(used, address);
+    let near = place_without_gaps(address, used);
     if near < used.len() {
         if used[near] == address {
             return near;
         }
     }
-    let last = last_at_most(used, address);
+    let last = last_at_most(address, used);
     if last < used.len() {
         return last + (used[last] < address) as usize;
     }
@@ -98,11 +111,11 @@ fn rank_of(used: &[u64], address: u64) -> usize
 }
 
 // Where an address is, by a search.
-fn search(addresses: &[u64], count: usize, address: u64) -> Found
+fn search(count: usize, address: u64, addresses: &[u64]) -> Found
     requires { ⌜ Rising count (now addresses) ⌝ }
     ensures { λ r. ⌜ r ≡ foundOf (take count (now (addresses .entry))) address ⌝ }
 {
-    let last = last_at_most(&addresses[..count], address);
+    let last = last_at_most(address, &addresses[..count]);
     if last < count {
         if addresses[last] == address {
             return Found::At(last);
@@ -113,32 +126,32 @@ fn search(addresses: &[u64], count: usize, address: u64) -> Found
 }
 
 // The same. An address that stands at its place without gaps needs no search, and this is little enough code to be compiled into a step.
-pub fn find(addresses: &[u64], count: usize, address: u64) -> Found
+pub fn find(count: usize, address: u64, addresses: &[u64]) -> Found
     requires { ⌜ Rising count (now addresses) ⌝ }
     ensures { λ r. ⌜ r ≡ foundOf (take count (now (addresses .entry))) address ⌝ }
 {
-    let near = place_without_gaps(&addresses[..count], address);
+    let near = place_without_gaps(address, &addresses[..count]);
     if near < count {
         if addresses[near] == address {
             return Found::At(near);
         }
     }
-    search(addresses, count, address)
+    search(count, address, addresses)
 }
 
 // Reads a cell.
 pub fn read(
     guarded: bool,
+    count: usize,
+    address: u64,
     addresses: &[u64],
     numbers: &[u64],
     marks: &[u64],
-    count: usize,
-    address: u64,
 ) -> Cell
     requires { ⌜ Ordered guarded count (now addresses) (now numbers) (now marks) ⌝ }
     ensures { λ r. ⌜ r ≡ cellOf guarded (cellsOf count (now (addresses .entry)) (now (numbers .entry))) (cellsOf count (now (addresses .entry)) (now (marks .entry))) address ⌝ }
 {
-    match find(addresses, count, address) {
+    match find(count, address, addresses) {
         Found::At(at) => Cell::Present {
             number: numbers[at],
             marked: guarded && marks[at] == 1,
@@ -147,13 +160,71 @@ pub fn read(
     }
 }
 
+// Reads the cell at an address and the one after it, which stand side by side.
+pub fn read_pair(
+    guarded: bool,
+    count: usize,
+    address: u64,
+    addresses: &[u64],
+    numbers: &[u64],
+    marks: &[u64],
+) -> Pair
+    requires { ⌜ Ordered guarded count (now addresses) (now numbers) (now marks) ⌝ }
+    requires { ⌜ address + 1 < wordEnd ⌝ }
+    ensures { λ r. ⌜ r
+        ≡ pairOf guarded (cellsOf count (now (addresses .entry)) (now (numbers .entry)))
+        (cellsOf count (now (addresses .entry)) (now (marks .entry))) address ⌝ }
+{
+    match find(count, address, addresses) {
+        Found::Absent(_) => Pair::Absent,
+        Found::At(at) => {
+            if count - at < 2 {
+                return Pair::Absent;
+            }
+            if addresses[at + 1] != address + 1 {
+                return Pair::Absent;
+            }
+            Pair::Present {
+                low: numbers[at],
+                low_marked: guarded && marks[at] == 1,
+                high: numbers[at + 1],
+                high_marked: guarded && marks[at + 1] == 1,
+            }
+        }
+    }
+}
+
+// The numbers of the four cells from a place on.
+pub fn read_four(at: usize, numbers: &[u64]) -> [u64; 4]
+    requires { ⌜ at + 4 ≤ length (now numbers) ⌝ }
+    ensures { λ r. ⌜ r ≡ take 4 (drop at (now (numbers .entry))) ⌝ }
+{
+    [
+        numbers[at],
+        numbers[at + 1],
+        numbers[at + 2],
+        numbers[at + 3],
+    ]
+}
+
+// The numbers of n cells from a place on, copied to tape or output behind its first `count` values.
+pub fn append_numbers(count: usize, at: usize, n: usize, numbers: &[u64], buffer: &mut [u64])
+    requires { ⌜ at + n ≤ length (now numbers) ⌝ }
+    requires { ⌜ count + n ≤ length (now buffer) ⌝ }
+    ensures { λ _. ⌜ now (buffer .exit)
+        ≡ overlay (take count (now (buffer .entry)) ++ take n (drop at (now (numbers .entry)))) (now (buffer .entry)) ⌝ }
+{
+    let end = at + n;
+    tape::write_values(&numbers[at..end], &mut buffer[count..]);
+}
+
 // Where the n cells from an address on are. Addresses rise, so all are present where the last of as many places has the last address.
-pub fn find_span(addresses: &[u64], count: usize, start: u64, n: u64) -> Span
+pub fn find_span(count: usize, start: u64, n: u64, addresses: &[u64]) -> Span
     requires { ⌜ Rising count (now addresses) ⌝ }
     requires { ⌜ start + n < wordEnd ⌝ }
     ensures { λ r. ⌜ r ≡ spanOf (take count (now (addresses .entry))) start n ⌝ }
 {
-    let at = rank_of(&addresses[..count], start);
+    let at = rank_of(start, &addresses[..count]);
     if n == 0 {
         return Span::At(at);
     }
@@ -167,7 +238,7 @@ pub fn find_span(addresses: &[u64], count: usize, start: u64, n: u64) -> Span
 }
 
 // Is there capacity for the n cells from an address on? Those that are present need none.
-pub fn has_capacity(addresses: &[u64], count: usize, start: u64, n: usize) -> bool
+pub fn has_capacity(count: usize, start: u64, n: usize, addresses: &[u64]) -> bool
     requires { ⌜ Rising count (now addresses) ⌝ }
     requires { ⌜ start + n < wordEnd ⌝ }
     ensures { λ r. ⌜ r ≡ leb (count + missing (take count (now (addresses .entry))) start n) (length (now (addresses .entry))) ⌝ }
@@ -175,13 +246,13 @@ pub fn has_capacity(addresses: &[u64], count: usize, start: u64, n: usize) -> bo
     if n <= addresses.len() - count {
         return true;
     }
-    let low = rank_of(&addresses[..count], start);
-    let high = rank_of(&addresses[..count], start + n as u64);
+    let low = rank_of(start, &addresses[..count]);
+    let high = rank_of(start + n as u64, &addresses[..count]);
     n - (high - low) <= addresses.len() - count
 }
 
 // Is one of the n cells from a place on marked?
-pub fn any_marked(marks: &[u64], at: usize, n: usize) -> bool
+pub fn any_marked(at: usize, n: usize, marks: &[u64]) -> bool
     requires { ⌜ at + n ≤ length (now marks) ⌝ }
     ensures { λ r. ⌜ r ≡ anyMark (take n (drop at (now (marks .entry)))) ⌝ }
 {
@@ -196,7 +267,7 @@ pub fn any_marked(marks: &[u64], at: usize, n: usize) -> bool
 }
 
 // Puts v in at a place of the first `count` elements, which move up by one from there on.
-fn insert_at(buffer: &mut [u64], count: usize, at: usize, v: u64)
+fn insert_at(count: usize, at: usize, v: u64, buffer: &mut [u64])
     requires { ⌜ at ≤ count ⌝ }
     requires { ⌜ count < length (now buffer) ⌝ }
     ensures { λ _. ⌜ now (buffer .exit) ≡ overlay (insertAt at v (take count (now (buffer .entry)))) (now (buffer .entry)) ⌝ }
@@ -212,11 +283,11 @@ fn insert_at(buffer: &mut [u64], count: usize, at: usize, v: u64)
 // Writes a number, and in a guarded run its mark, to the cell at a place.
 pub fn write_at(
     guarded: bool,
-    numbers: &mut [u64],
-    marks: &mut [u64],
     at: usize,
     number: u64,
     mark: bool,
+    numbers: &mut [u64],
+    marks: &mut [u64],
 )
     requires { ⌜ at < length (now numbers) ⌝ }
     requires { ⌜ (guarded ≡ true → at < length (now marks)) ⌝ }
@@ -232,14 +303,14 @@ pub fn write_at(
 // Puts a new cell in at the place where its address would go.
 pub fn insert(
     guarded: bool,
-    addresses: &mut [u64],
-    numbers: &mut [u64],
-    marks: &mut [u64],
     count: usize,
     at: usize,
     address: u64,
     number: u64,
     mark: bool,
+    addresses: &mut [u64],
+    numbers: &mut [u64],
+    marks: &mut [u64],
 )
     requires { ⌜ Ordered guarded count (now addresses) (now numbers) (now marks) ⌝ }
     requires { ⌜ count < length (now addresses) ⌝ }
@@ -248,10 +319,10 @@ pub fn insert(
         (put (cellsOf count (now (addresses .entry)) (now (marks .entry))) address (bit mark)) (count + 1)
         (now (addresses .entry)) (now (numbers .entry)) (now (marks .entry)) (now (addresses .exit)) (now (numbers .exit)) (now (marks .exit)) ⌝ }
 {
-    insert_at(numbers, count, at, number);
-    insert_at(addresses, count, at, address);
+    insert_at(count, at, number, numbers);
+    insert_at(count, at, address, addresses);
     if guarded {
-        insert_at(marks, count, at, mark as u64);
+        insert_at(count, at, mark as u64, marks);
     }
 }
 
@@ -267,21 +338,21 @@ fn clear(marks: &mut [u64])
 }
 
 // Values in the place of the numbers from a place on, unmarked in a guarded run.
-fn overwrite(guarded: bool, numbers: &mut [u64], marks: &mut [u64], at: usize, values: &[u64])
+fn overwrite(guarded: bool, at: usize, values: &[u64], numbers: &mut [u64], marks: &mut [u64])
     requires { ⌜ at + length (now values) ≤ length (now numbers) ⌝ }
     requires { ⌜ (guarded ≡ true → length (now marks) ≡ length (now numbers)) ⌝ }
     ensures { λ _. ⌜ now (numbers .exit) ≡ overwritten at (now (values .entry)) (now (numbers .entry)) ⌝ }
     ensures { λ _. ⌜ now (marks .exit) ≡ choose guarded (overwritten at (zeros (now (values .entry))) (now (marks .entry))) (now (marks .entry)) ⌝ }
 {
     let end = at + values.len();
-    tape::write_values(&mut numbers[at..end], values);
+    tape::write_values(values, &mut numbers[at..end]);
     if guarded {
         clear(&mut marks[at..end]);
     }
 }
 
 // The used elements from a place on, moved up by n places.
-fn move_up(buffer: &mut [u64], count: usize, from: usize, n: usize)
+fn move_up(count: usize, from: usize, n: usize, buffer: &mut [u64])
     requires { ⌜ from ≤ count ⌝ }
     requires { ⌜ count + n ≤ length (now buffer) ⌝ }
     ensures { λ _. ⌜ now (buffer .exit) ≡ moved count from (from + n) (now (buffer .entry)) ⌝ }
@@ -296,11 +367,11 @@ fn move_up(buffer: &mut [u64], count: usize, from: usize, n: usize)
 // The numbers from a place on, and in a guarded run their marks, moved up by n places.
 fn move_contents(
     guarded: bool,
-    numbers: &mut [u64],
-    marks: &mut [u64],
     count: usize,
     from: usize,
     n: usize,
+    numbers: &mut [u64],
+    marks: &mut [u64],
 )
     requires { ⌜ from ≤ count ⌝ }
     requires { ⌜ count + n ≤ length (now numbers) ⌝ }
@@ -308,14 +379,14 @@ fn move_contents(
     ensures { λ _. ⌜ now (numbers .exit) ≡ moved count from (from + n) (now (numbers .entry)) ⌝ }
     ensures { λ _. ⌜ now (marks .exit) ≡ choose guarded (moved count from (from + n) (now (marks .entry))) (now (marks .entry)) ⌝ }
 {
-    move_up(numbers, count, from, n);
+    move_up(count, from, n, numbers);
     if guarded {
-        move_up(marks, count, from, n);
+        move_up(count, from, n, marks);
     }
 }
 
 // Addresses without gaps.
-fn number_cells(addresses: &mut [u64], start: u64)
+fn number_cells(start: u64, addresses: &mut [u64])
     requires { ⌜ start + length (now addresses) < wordEnd ⌝ }
     ensures { λ _. ⌜ now (addresses .exit) ≡ consecutive start (length (now (addresses .entry))) ⌝ }
 {
@@ -330,13 +401,13 @@ fn number_cells(addresses: &mut [u64], start: u64)
 // once, by as many places as cells are new. Their contents are still to be written.
 fn make_room(
     guarded: bool,
-    addresses: &mut [u64],
-    numbers: &mut [u64],
-    marks: &mut [u64],
     count: usize,
     low: usize,
     start: u64,
     n: usize,
+    addresses: &mut [u64],
+    numbers: &mut [u64],
+    marks: &mut [u64],
 ) -> usize
     requires { ⌜ Ordered guarded count (now addresses) (now numbers) (now marks) ⌝ }
     requires { ⌜ low ≡ rank (take count (now addresses)) start ⌝ }
@@ -352,48 +423,48 @@ fn make_room(
         ≡ choose guarded (moved count (rank (take count (now (addresses .entry))) (start + n)) (low + n) (now (marks .entry)))
         (now (marks .entry)) ⌝ }
 {
-    let high = rank_of(&addresses[..count], start + n as u64);
+    let high = rank_of(start + n as u64, &addresses[..count]);
     let new = n - (high - low);
-    move_contents(guarded, numbers, marks, count, high, new);
-    move_up(addresses, count, high, new);
+    move_contents(guarded, count, high, new, numbers, marks);
+    move_up(count, high, new, addresses);
     let end = low + n;
-    number_cells(&mut addresses[low..end], start);
+    number_cells(start, &mut addresses[low..end]);
     count + new
 }
 
 // Stores values, unmarked, to the cells from an address on; how many cells are used afterwards. Where all are present, none is moved.
 pub fn store_many(
     guarded: bool,
-    addresses: &mut [u64],
-    numbers: &mut [u64],
-    marks: &mut [u64],
     count: usize,
     start: u64,
     values: &[u64],
+    addresses: &mut [u64],
+    numbers: &mut [u64],
+    marks: &mut [u64],
 ) -> usize
     requires { ⌜ Ordered guarded count (now addresses) (now numbers) (now marks) ⌝ }
     requires { ⌜ (0 < length (now values) → start + length (now values) ≤ heapEnd) ⌝ }
     requires { ⌜ Cells.count (putMany (cellsOf count (now addresses) (now numbers)) start (now values)) ≤ length (now addresses) ⌝ }
     ensures { λ r. ⌜ Holding guarded (putMany (cellsOf count (now (addresses .entry)) (now (numbers .entry))) start (now (values .entry))) (cleanMany Cells.markCells (cellsOf count (now (addresses .entry)) (now (marks .entry))) start (now (values .entry))) r (now (addresses .entry)) (now (numbers .entry)) (now (marks .entry)) (now (addresses .exit)) (now (numbers .exit)) (now (marks .exit)) ⌝ }
 {
-    match find_span(addresses, count, start, values.len() as u64) {
+    match find_span(count, start, values.len() as u64, addresses) {
         Span::At(at) => {
-            overwrite(guarded, numbers, marks, at, values);
+            overwrite(guarded, at, values, numbers, marks);
             count
         }
         Span::Absent => {
-            let low = rank_of(&addresses[..count], start);
+            let low = rank_of(start, &addresses[..count]);
             let used = make_room(
                 guarded,
-                addresses,
-                numbers,
-                marks,
                 count,
                 low,
                 start,
                 values.len(),
+                addresses,
+                numbers,
+                marks,
             );
-            overwrite(guarded, numbers, marks, low, values);
+            overwrite(guarded, low, values, numbers, marks);
             used
         }
     }

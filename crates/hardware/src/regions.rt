@@ -1,4 +1,5 @@
 // Regions of addresses.
+use goldilocks::GoldilocksField;
 ghost use mathlib.Core.Path.{_≡_};
 ghost use Rattle.hardware.specs.Regions.{regionOf};
 
@@ -16,7 +17,7 @@ impl Region {
 
     pub const HEAP_END: u64 = 0xFFFF_FFFE_0000_0002;
 
-    pub const PROPHET_END: u64 = 0xFFFF_FFFF_0000_0001;
+    pub const PROPHET_END: u64 = GoldilocksField::ORDER;
 
     // The region of an address.
     pub fn of(address: u64) -> Region

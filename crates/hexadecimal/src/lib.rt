@@ -60,21 +60,21 @@ pub enum Put {
 }
 
 // Writes a word in shortest hexadecimal.
-pub fn put_shortest(buffer: &mut [u8], at: usize, v: u64) -> Put
+pub fn put_shortest(at: usize, v: u64, buffer: &mut [u8]) -> Put
     ensures { λ r. ⌜ Writes (shortestHex v) (now (buffer .entry)) at r (now (buffer .exit)) ⌝ }
 {
-    put_digits(buffer, at, v, digit_count(v))
+    put_digits(at, v, digit_count(v), buffer)
 }
 
 // Writes the sixteen digits of a word.
-pub fn put_16(buffer: &mut [u8], at: usize, v: u64) -> Put
+pub fn put_16(at: usize, v: u64, buffer: &mut [u8]) -> Put
     ensures { λ r. ⌜ Writes (digits16 v) (now (buffer .entry)) at r (now (buffer .exit)) ⌝ }
 {
-    put_digits(buffer, at, v, 16)
+    put_digits(at, v, 16, buffer)
 }
 
 // Writes a number's lowest n digits, the lowest first.
-fn put_digits(buffer: &mut [u8], at: usize, v: u64, n: usize) -> Put
+fn put_digits(at: usize, v: u64, n: usize, buffer: &mut [u8]) -> Put
     ensures { λ r. ⌜ Writes (lowDigits n v) (now (buffer .entry)) at r (now (buffer .exit)) ⌝ }
 {
     if buffer.len() < n || buffer.len() - n < at {

@@ -1,16 +1,17 @@
 // Effects carried out. Buffers are written by the functions of `hardware` alone.
 use crate::Finish;
 use crate::Stepped;
-use effects::Effect;
 use effects::Counts;
+use effects::Effect;
 use effects::EffectKind;
 use effects::Mode;
 use rules::Answer;
+use rules::Marks;
 ghost use mathlib.Core.Path.{_≡_};
 ghost use mathlib.Core.List.{_++_};
 ghost use Prim.Native.Nat.{ℕ, _+_, _≤_, _<_};
 ghost use lib.ListN.{length, take, drop};
-ghost use Rattle.rules.specs.Numbers.{heapEnd};
+ghost use Rattle.rules.specs.Numbers.{heapEnd, marksEnd};
 ghost use Rattle.rules.specs.Cells as Cells;
 ghost use Rattle.rules.specs.Step.{overlay};
 ghost use Rattle.rules.specs.Guarded.{cleanMany};
@@ -21,28 +22,30 @@ ghost use Rattle.interpreter.specs.Cores.{coreOf};
 ghost use Rattle.interpreter.specs.Steps.{callAnswer, marksAfter, clkAfter, coreAfter, Carriable, CarriedOut};
 
 // The registers' marks after one register was written; in a plain run they rest.
-fn marks_after(mode: Mode, register: usize, mark: bool) -> u64
-    requires { ⌜ mode .«register_marks» < 1024 ⌝ }
+fn marks_after(mode: Mode, register: usize, mark: bool) -> Marks
+    requires { ⌜ mode .extras .registers < marksEnd ⌝ }
     requires { ⌜ register < 10 ⌝ }
     ensures { λ r. ⌜ r ≡ marksAfter mode register mark ⌝ }
 {
     if mode.guarded {
-        return operands::marks::with_mark(mode.register_marks, register, mark);
+        return Marks {
+            registers: operands::marks::with_mark(mode.extras.registers, register, mark),
+        };
     }
-    mode.register_marks
+    mode.extras
 }
 
 // Tape values to cells; how many cells are used afterwards.
 fn load_tape(
     guarded: bool,
-    addresses: &mut [u64],
-    numbers: &mut [u64],
-    marks: &mut [u64],
     count: usize,
-    tape: &[u64],
     from: usize,
     n: usize,
     address: u64,
+    addresses: &mut [u64],
+    numbers: &mut [u64],
+    marks: &mut [u64],
+    tape: &[u64],
 ) -> usize
     requires { ⌜ Ordered guarded count (now addresses) (now numbers) (now marks) ⌝ }
     requires { ⌜ from + n ≤ length (now tape) ⌝ }
@@ -53,23 +56,13 @@ fn load_tape(
     let end = from + n;
     hardware::cells::store_many(
         guarded,
-        addresses,
-        numbers,
-        marks,
         count,
         address,
         &tape[from..end],
+        addresses,
+        numbers,
+        marks,
     )
-}
-
-// The numbers of cells to tape or output, behind its first `count` values.
-fn append_numbers(buffer: &mut [u64], count: usize, numbers: &[u64], at: usize, n: usize)
-    requires { ⌜ at + n ≤ length (now numbers) ⌝ }
-    requires { ⌜ count + n ≤ length (now buffer) ⌝ }
-    ensures { λ _. ⌜ now (buffer .exit) ≡ overlay (take count (now (buffer .entry)) ++ part at n (now (numbers .entry))) (now (buffer .entry)) ⌝ }
-{
-    let end = at + n;
-    hardware::tape::write_values(&mut buffer[count..], &numbers[at..end]);
 }
 
 // The twelve words that a call leaves on the tape.
@@ -93,37 +86,33 @@ fn call_values(storage_addr: [u64; 4], callee: [u64; 4], delegate: bool) -> [u64
 // A call: its words go to the tape, behind the first `count` values; the answer names the callee.
 fn call_contract(
     storage_addr: [u64; 4],
-    numbers: &[u64],
+    count: usize,
     at: usize,
     delegate: bool,
+    numbers: &[u64],
     tape: &mut [u64],
-    count: usize,
 ) -> Answer
     requires { ⌜ at + 4 ≤ length (now numbers) ⌝ }
     requires { ⌜ count + 12 ≤ length (now tape) ⌝ }
     ensures { λ r. ⌜ r ≡ callAnswer delegate (part at 4 (now (numbers .entry))) ⌝ }
     ensures { λ _. ⌜ now (tape .exit) ≡ overlay (take count (now (tape .entry)) ++ callValues «storage_addr» (part at 4 (now (numbers .entry))) delegate) (now (tape .entry)) ⌝ }
 {
-    let c0 = numbers[at];
-    let c1 = numbers[at + 1];
-    let c2 = numbers[at + 2];
-    let c3 = numbers[at + 3];
-    let values = call_values(storage_addr, [c0, c1, c2, c3], delegate);
-    hardware::tape::write_values(&mut tape[count..], &values);
+    let callee = hardware::cells::read_four(at, numbers);
+    let values = call_values(storage_addr, callee, delegate);
+    hardware::tape::write_values(&values, &mut tape[count..]);
     if delegate {
-        return Answer::DelegateCalling(c0, c1, c2, c3);
+        return Answer::DelegateCalling(callee[0], callee[1], callee[2], callee[3]);
     }
-    Answer::Calling(c0, c1, c2, c3)
+    Answer::Calling(callee[0], callee[1], callee[2], callee[3])
 }
 
 // Carries an effect out: registers, which are the first of the values, and buffers are changed in place, the rest is handed back. `mark`
 // is that of the registers that the effect's number is made of. clk is not looked at: 0 stands for it in what is required, and what is
 // promised holds for any.
 pub(crate) fn carry_out(
+    mode: Mode,
     effect: Effect,
     mark: bool,
-    mode: Mode,
-    values: &mut [u64],
     pc: u64,
     storage_addr: [u64; 4],
     counts: Counts,
@@ -132,6 +121,7 @@ pub(crate) fn carry_out(
     marks: &mut [u64],
     tape: &mut [u64],
     output: &mut [u64],
+    values: &mut [u64],
 ) -> Stepped
     requires { ⌜ 10 ≤ length (now values) ⌝ }
     requires { ⌜ Placed (take (counts .cells) (now addresses)) effect ⌝ }
@@ -139,7 +129,7 @@ pub(crate) fn carry_out(
     ensures { λ r. ⌜ ((clk : ℕ) → CarriedOut «storage_addr» (meant mark effect) (coreOf mode (take 10 (now (values .entry))) pc clk counts (now (addresses .entry)) (now (numbers .entry)) (now (marks .entry)) (now (tape .entry)) (now (output .entry))) (r .finish) (coreAfter mode r (clkAfter (r .finish) clk) (take 10 (now (values .exit))) (now (addresses .exit)) (now (numbers .exit)) (now (marks .exit)) (now (tape .exit)) (now (output .exit)))) ⌝ }
     ensures { λ _. ⌜ (length (now (values .exit)) ≡ length (now (values .entry))) × (drop 10 (now (values .exit)) ≡ drop 10 (now (values .entry))) ⌝ }
 {
-    let register_marks = mode.register_marks;
+    let extras = mode.extras;
     let kind = effect.kind;
     let place = effect.place;
     let count = effect.count;
@@ -150,30 +140,30 @@ pub(crate) fn carry_out(
             Stepped {
                 pc: next,
                 counts,
-                register_marks: marks_after(mode, place, effect.flag | mark),
+                extras: marks_after(mode, place, effect.flag | mark),
                 finish: Finish::GoesOn,
             }
         }
         EffectKind::StoreAt => {
-            hardware::cells::write_at(mode.guarded, numbers, marks, place, effect.number, mark);
+            hardware::cells::write_at(mode.guarded, place, effect.number, mark, numbers, marks);
             Stepped {
                 pc: next,
                 counts,
-                register_marks,
+                extras,
                 finish: Finish::GoesOn,
             }
         }
         EffectKind::Insert => {
             hardware::cells::insert(
                 mode.guarded,
-                addresses,
-                numbers,
-                marks,
                 counts.cells,
                 place,
                 effect.address,
                 effect.number,
                 mark,
+                addresses,
+                numbers,
+                marks,
             );
             let cells = counts.cells + 1;
             Stepped {
@@ -183,27 +173,27 @@ pub(crate) fn carry_out(
                     tape: counts.tape,
                     output: counts.output,
                 },
-                register_marks,
+                extras,
                 finish: Finish::GoesOn,
             }
         }
         EffectKind::Jump => Stepped {
             pc: next,
             counts,
-            register_marks,
+            extras,
             finish: Finish::GoesOn,
         },
         EffectKind::LoadTape => {
             let cells = load_tape(
                 mode.guarded,
-                addresses,
-                numbers,
-                marks,
                 counts.cells,
-                tape,
                 place,
                 count,
                 effect.address,
+                addresses,
+                numbers,
+                marks,
+                tape,
             );
             Stepped {
                 pc: next,
@@ -212,13 +202,13 @@ pub(crate) fn carry_out(
                     tape: counts.tape,
                     output: counts.output,
                 },
-                register_marks,
+                extras,
                 finish: Finish::GoesOn,
             }
         }
         EffectKind::StoreTape => {
-            append_numbers(tape, counts.tape, numbers, place, count);
-            append_numbers(output, counts.output, numbers, place, count);
+            hardware::cells::append_numbers(counts.tape, place, count, numbers, tape);
+            hardware::cells::append_numbers(counts.output, place, count, numbers, output);
             let tape_count = counts.tape + count;
             let output_count = counts.output + count;
             Stepped {
@@ -228,18 +218,18 @@ pub(crate) fn carry_out(
                     tape: tape_count,
                     output: output_count,
                 },
-                register_marks,
+                extras,
                 finish: Finish::GoesOn,
             }
         }
         EffectKind::CallContract => {
             let answer = call_contract(
                 storage_addr,
-                numbers,
+                counts.tape,
                 place,
                 effect.flag,
+                numbers,
                 tape,
-                counts.tape,
             );
             let tape_count = counts.tape + 12;
             Stepped {
@@ -249,26 +239,26 @@ pub(crate) fn carry_out(
                     tape: tape_count,
                     output: 0,
                 },
-                register_marks,
+                extras,
                 finish: Finish::Leaves(answer),
             }
         }
         EffectKind::End => Stepped {
             pc: next,
             counts,
-            register_marks,
+            extras,
             finish: Finish::Leaves(Answer::Ended),
         },
         EffectKind::Refuse(refusal) => Stepped {
             pc,
             counts,
-            register_marks,
+            extras,
             finish: Finish::Refuses(Answer::Refused(refusal)),
         },
         EffectKind::Sink => Stepped {
             pc,
             counts,
-            register_marks,
+            extras,
             finish: Finish::Refuses(Answer::MarkedSink),
         },
     }

@@ -5,8 +5,7 @@ use Rattle.rules.specs.declared.Machine.{Machine}
 use Rattle.rules.specs.Answers.{meaning}
 use Rattle.rules.specs.Entry.{Snapshot, GuardedSnapshot}
 use Rattle.rules.specs.Calls.{Called}
-use Rattle.executor.specs.Calling.{snapshot}
-use Rattle.guarded.specs.Calling.{snapshot as snapshotWith}
+use Rattle.rules.specs.Handed.{snapshot, guardedSnapshot}
 use Rattle.machine.specs.declared.Answered.{Answered}
 use Rattle.machine.specs.declared.GuardedMachine.{GuardedMachine}
 
@@ -14,9 +13,9 @@ use Rattle.machine.specs.declared.GuardedMachine.{GuardedMachine}
 abbrev pub stepped : Machine → Answered → List ℕ → List ℕ → List ℕ → List ℕ → Called Snapshot
 stepped m r xs ns tape output = record { answer = meaning (r .answer); steps = r .steps; left = snapshot m xs ns tape output }
 
-abbrev pub guardedSnapshot : GuardedMachine → List ℕ → List ℕ → List ℕ → List ℕ → List ℕ → GuardedSnapshot
-guardedSnapshot m = snapshotWith (m .machine) (m .«register_marks»)
+abbrev pub recordSnapshot : GuardedMachine → List ℕ → List ℕ → List ℕ → List ℕ → List ℕ → GuardedSnapshot
+recordSnapshot m = guardedSnapshot (m .machine) (m .extras)
 
 abbrev pub guardedStepped : GuardedMachine → Answered → List ℕ → List ℕ → List ℕ → List ℕ → List ℕ → Called GuardedSnapshot
 guardedStepped m r xs ns ts tape output =
-    record { answer = meaning (r .answer); steps = r .steps; left = guardedSnapshot m xs ns ts tape output }
+    record { answer = meaning (r .answer); steps = r .steps; left = recordSnapshot m xs ns ts tape output }

@@ -1,20 +1,22 @@
 // One machine record, stepped where it is kept.
 //
 // Public: `step` over a lent `Machine`, and `guarded_step` over a lent `GuardedMachine`. They take any arguments and check them, as
-// `executor::step_words` and `guarded::step_words` do, whose definitions their contracts name; they touch nothing but the record and the
-// buffers that they are lent. `lend_and_step` and `lend_and_step_guarded` lend a record of their own to these two: they are for callers
-// that have a record by value.
+// `executor::plain::step_words` and `executor::guarded::step_words` do, whose definitions their contracts name; they touch nothing but the
+// record and the buffers that they are lent. `lend_and_step` and `lend_and_step_guarded` lend a record of their own to these two: they are
+// for callers that have a record by value.
 use rules::Answer;
 use rules::Machine;
+use rules::Marks;
+use rules::Ran;
 ghost use mathlib.Core.Path.{_≡_};
 ghost use Rattle.rules.specs.Calls.{plainWords, guardedWords};
-ghost use Rattle.executor.specs.Calling.{snapshot};
-ghost use Rattle.machine.specs.Stepping.{stepped, guardedSnapshot, guardedStepped};
+ghost use Rattle.rules.specs.Handed.{snapshot, called, guardedCalled, noMarks};
+ghost use Rattle.machine.specs.Stepping.{stepped, recordSnapshot, guardedStepped};
 
-// A machine and its registers' marks, bit i for register i.
+// A machine and a guarded run's extras.
 pub struct GuardedMachine {
     pub machine: Machine,
-    pub register_marks: u64,
+    pub extras: Marks,
 }
 
 // What a step answered, and the steps done: 1 where the step stands, else 0.
@@ -23,148 +25,116 @@ pub struct Answered {
     pub steps: u64,
 }
 
-// The machine that a step leaves, and what it answered.
-pub struct Stepped {
-    pub machine: Machine,
-    pub answered: Answered,
-}
-
-pub struct GuardedStepped {
-    pub machine: GuardedMachine,
-    pub answered: Answered,
-}
-
-// `executor::step_words`, with its parameters in the order of `step`.
-fn step_by_value(
-    machine: Machine,
-    words: &[u64],
-    addresses: &mut [u64],
-    numbers: &mut [u64],
-    tape: &mut [u64],
-    output: &mut [u64],
-) -> Stepped
-    ensures { λ r. ⌜ stepped (r .machine) (r .answered) (now (addresses .exit)) (now (numbers .exit)) (now (tape .exit)) (now (output .exit)) ≡ plainWords (now (words .entry)) 1 (snapshot machine (now (addresses .entry)) (now (numbers .entry)) (now (tape .entry)) (now (output .entry))) ⌝ }
+// The answer and the steps of a run.
+fn answered(ran: Ran) -> Answered
+    ensures { λ r. ⌜ r ≡ record { answer = ran .answer; steps = ran .steps } ⌝ }
 {
-    let called = executor::step_words(words, machine, addresses, numbers, tape, output);
-    let answer = called.answer;
-    let left = called.machine;
-    let answered = Answered {
+    let answer = ran.answer;
+    Answered {
         answer,
-        steps: called.steps,
-    };
-    Stepped {
-        machine: left,
-        answered,
+        steps: ran.steps,
     }
 }
 
 // Takes one step of a program of bare words, where the machine is kept.
 pub fn step(
-    machine: &mut Machine,
     words: &[u64],
+    machine: &mut Machine,
     addresses: &mut [u64],
     numbers: &mut [u64],
     tape: &mut [u64],
     output: &mut [u64],
 ) -> Answered
-    ensures { λ r. ⌜ stepped (now (machine .exit)) r (now (addresses .exit)) (now (numbers .exit)) (now (tape .exit)) (now (output .exit)) ≡ plainWords (now (words .entry)) 1 (snapshot (now (machine .entry)) (now (addresses .entry)) (now (numbers .entry)) (now (tape .entry)) (now (output .entry))) ⌝ }
+    ensures { λ r. ⌜ stepped (now (machine .exit)) r (now (addresses .exit)) (now (numbers .exit)) (now (tape .exit)) (now (output .exit))
+        ≡ plainWords (now (words .entry)) 1
+        (snapshot (now (machine .entry)) (now (addresses .entry)) (now (numbers .entry)) (now (tape .entry)) (now (output .entry))) ⌝ }
 {
-    let after = step_by_value(*machine, words, addresses, numbers, tape, output);
-    *machine = after.machine;
-    after.answered
+    let ran = executor::plain::step_words(words, *machine, addresses, numbers, tape, output);
+    *machine = ran.machine;
+    answered(ran)
 }
 
 // Steps a machine by value: lends it to `step`.
 pub fn lend_and_step(
-    machine: Machine,
     words: &[u64],
+    machine: Machine,
     addresses: &mut [u64],
     numbers: &mut [u64],
     tape: &mut [u64],
     output: &mut [u64],
-) -> Stepped
-    ensures { λ r. ⌜ stepped (r .machine) (r .answered) (now (addresses .exit)) (now (numbers .exit)) (now (tape .exit)) (now (output .exit)) ≡ plainWords (now (words .entry)) 1 (snapshot machine (now (addresses .entry)) (now (numbers .entry)) (now (tape .entry)) (now (output .entry))) ⌝ }
+) -> Ran
+    ensures { λ r. ⌜ called r (now (addresses .exit)) (now (numbers .exit)) (now (tape .exit)) (now (output .exit))
+        ≡ plainWords (now (words .entry)) 1
+        (snapshot machine (now (addresses .entry)) (now (numbers .entry)) (now (tape .entry)) (now (output .entry))) ⌝ }
+    ensures { λ r. ⌜ r .extras ≡ noMarks ⌝ }
 {
     let mut record = machine;
-    let answered = step(&mut record, words, addresses, numbers, tape, output);
-    Stepped {
+    let answered = step(words, &mut record, addresses, numbers, tape, output);
+    let answer = answered.answer;
+    Ran {
+        answer,
+        steps: answered.steps,
         machine: record,
-        answered,
+        extras: Marks { registers: 0 },
     }
 }
 
-// `guarded::step_words`, with its parameters in the order of `guarded_step`.
-fn guarded_step_by_value(
-    machine: GuardedMachine,
+// Takes one guarded step of a program of bare words, where the machine and its extras are kept.
+pub fn guarded_step(
     words: &[u64],
+    machine: &mut GuardedMachine,
     addresses: &mut [u64],
     numbers: &mut [u64],
     marks: &mut [u64],
     tape: &mut [u64],
     output: &mut [u64],
-) -> GuardedStepped
-    ensures { λ r. ⌜ guardedStepped (r .machine) (r .answered) (now (addresses .exit)) (now (numbers .exit)) (now (marks .exit)) (now (tape .exit)) (now (output .exit)) ≡ guardedWords (now (words .entry)) 1 (guardedSnapshot machine (now (addresses .entry)) (now (numbers .entry)) (now (marks .entry)) (now (tape .entry)) (now (output .entry))) ⌝ }
+) -> Answered
+    ensures { λ r. ⌜ guardedStepped (now (machine .exit)) r (now (addresses .exit)) (now (numbers .exit)) (now (marks .exit)) (now (tape .exit)) (now (output .exit))
+        ≡ guardedWords (now (words .entry)) 1
+        (recordSnapshot (now (machine .entry)) (now (addresses .entry)) (now (numbers .entry)) (now (marks .entry)) (now (tape .entry)) (now (output .entry))) ⌝ }
 {
-    let plain = machine.machine;
-    let called = guarded::step_words(
+    let kept = *machine;
+    let plain = kept.machine;
+    let ran = executor::guarded::step_words(
         words,
         plain,
-        machine.register_marks,
+        kept.extras,
         addresses,
         numbers,
         marks,
         tape,
         output,
     );
-    let answer = called.answer;
-    let left = called.machine;
-    let guarded_left = GuardedMachine {
+    let left = ran.machine;
+    *machine = GuardedMachine {
         machine: left,
-        register_marks: called.register_marks,
+        extras: ran.extras,
     };
-    let answered = Answered {
-        answer,
-        steps: called.steps,
-    };
-    GuardedStepped {
-        machine: guarded_left,
-        answered,
-    }
-}
-
-// Takes one guarded step of a program of bare words, where the machine and its registers' marks are kept.
-pub fn guarded_step(
-    machine: &mut GuardedMachine,
-    words: &[u64],
-    addresses: &mut [u64],
-    numbers: &mut [u64],
-    marks: &mut [u64],
-    tape: &mut [u64],
-    output: &mut [u64],
-) -> Answered
-    ensures { λ r. ⌜ guardedStepped (now (machine .exit)) r (now (addresses .exit)) (now (numbers .exit)) (now (marks .exit)) (now (tape .exit)) (now (output .exit)) ≡ guardedWords (now (words .entry)) 1 (guardedSnapshot (now (machine .entry)) (now (addresses .entry)) (now (numbers .entry)) (now (marks .entry)) (now (tape .entry)) (now (output .entry))) ⌝ }
-{
-    let after = guarded_step_by_value(*machine, words, addresses, numbers, marks, tape, output);
-    *machine = after.machine;
-    after.answered
+    answered(ran)
 }
 
 // Steps a guarded machine by value: lends it to `guarded_step`.
 pub fn lend_and_step_guarded(
-    machine: GuardedMachine,
     words: &[u64],
+    machine: GuardedMachine,
     addresses: &mut [u64],
     numbers: &mut [u64],
     marks: &mut [u64],
     tape: &mut [u64],
     output: &mut [u64],
-) -> GuardedStepped
-    ensures { λ r. ⌜ guardedStepped (r .machine) (r .answered) (now (addresses .exit)) (now (numbers .exit)) (now (marks .exit)) (now (tape .exit)) (now (output .exit)) ≡ guardedWords (now (words .entry)) 1 (guardedSnapshot machine (now (addresses .entry)) (now (numbers .entry)) (now (marks .entry)) (now (tape .entry)) (now (output .entry))) ⌝ }
+) -> Ran
+    ensures { λ r. ⌜ guardedCalled r (now (addresses .exit)) (now (numbers .exit)) (now (marks .exit)) (now (tape .exit)) (now (output .exit))
+        ≡ guardedWords (now (words .entry)) 1
+        (recordSnapshot machine (now (addresses .entry)) (now (numbers .entry)) (now (marks .entry)) (now (tape .entry)) (now (output .entry))) ⌝ }
 {
     let mut record = machine;
-    let answered = guarded_step(&mut record, words, addresses, numbers, marks, tape, output);
-    GuardedStepped {
-        machine: record,
-        answered,
+    let answered = guarded_step(words, &mut record, addresses, numbers, marks, tape, output);
+    let answer = answered.answer;
+    let left = record.machine;
+    Ran {
+        answer,
+        steps: answered.steps,
+        machine: left,
+        extras: record.extras,
     }
 }

@@ -1,8 +1,8 @@
 // The operands of an instruction that have to be computed or are refused, and the marks of registers.
 //
 // Internal, for the crates above: `values::compute`, `marks::{is_any, with_mark}`.
-pub mod opcodes;
 pub mod marks;
+pub mod opcodes;
 pub mod values;
 
 use rules::Refusal;

@@ -100,7 +100,7 @@ pub(crate) fn malformed_line(text: &[u8], at: usize, frames: usize) -> Refusal
 }
 
 // Reads words of 16 digits each from a place on into the buffer; false where some character is no digit.
-fn read_words(text: &[u8], at: usize, count: usize, words: &mut [u64; 2048], used: usize) -> bool
+fn read_words(text: &[u8], at: usize, count: usize, used: usize, words: &mut [u64; 2048]) -> bool
     requires { ⌜ at + 16 * count ≤ length (now text) ⌝ }
     requires { ⌜ (used + count ≤ 2048) × (length (now words) ≡ 2048) ⌝ }
     ensures { λ r. ⌜ ReadsWords (drop at (now (text .entry))) count used (now (words .entry)) (now (words .exit)) r ⌝ }
@@ -120,14 +120,14 @@ fn read_words(text: &[u8], at: usize, count: usize, words: &mut [u64; 2048], use
 }
 
 // Reads a line of one to four words, from its start to its line feed.
-fn read_line(text: &[u8], at: usize, end: usize, words: &mut [u64; 2048], used: usize) -> Line
+fn read_line(text: &[u8], at: usize, end: usize, used: usize, words: &mut [u64; 2048]) -> Line
     requires { ⌜ (at ≤ end) × (end ≤ length (now text)) ⌝ }
     requires { ⌜ WholeWords (end - at) ⌝ }
     requires { ⌜ (used + 4 ≤ 2048) × (length (now words) ≡ 2048) ⌝ }
     ensures { λ r. ⌜ ReadsLine (take (end - at) (drop at (now (text .entry)))) used (now (words .entry)) (now (words .exit)) r ⌝ }
 {
     let count = (end - at) / 16;
-    if !read_words(text, at, count, words, used) {
+    if !read_words(text, at, count, used, words) {
         return Line::Malformed;
     }
     if frame_length(words[used]) != count {
@@ -138,7 +138,7 @@ fn read_line(text: &[u8], at: usize, end: usize, words: &mut [u64; 2048], used: 
 
 // Reads the line at a place, if it is ended and a frame's. Its digits are read once: that no line feed stands among them need not be
 // looked for.
-pub(crate) fn read_frame(text: &[u8], at: usize, words: &mut [u64; 2048], used: usize) -> Line
+pub(crate) fn read_frame(text: &[u8], at: usize, used: usize, words: &mut [u64; 2048]) -> Line
     requires { ⌜ at < length (now text) ⌝ }
     requires { ⌜ (used + 4 ≤ 2048) × (length (now words) ≡ 2048) ⌝ }
     ensures { λ r. ⌜ ReadsFrame (now (text .entry)) at used (now (words .entry)) (now (words .exit)) r ⌝ }
@@ -147,5 +147,5 @@ pub(crate) fn read_frame(text: &[u8], at: usize, words: &mut [u64; 2048], used: 
     if text.len() <= end {
         return Line::Malformed;
     }
-    read_line(text, at, end, words, used)
+    read_line(text, at, end, used, words)
 }

@@ -52,10 +52,10 @@ pub fn print(answer: Answer, steps: u64, machine: Machine, output: &[u64], buffe
 {
     let label = label::label_of(answer);
     if label::is_entry_refusal(label) {
-        return lines::put_lines(buffer, label, 0, 0, 0, used_output(output, 0));
+        return lines::put_lines(label, 0, 0, 0, used_output(output, 0), buffer);
     }
     let pc = machine.pc;
     let clk = machine.clk;
     let count = machine.output_count;
-    lines::put_lines(buffer, label, steps, pc, clk, used_output(output, count))
+    lines::put_lines(label, steps, pc, clk, used_output(output, count), buffer)
 }

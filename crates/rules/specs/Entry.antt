@@ -7,7 +7,7 @@ use lib.ListN.{length, take}
 use Rattle.rules.specs.declared.Machine.{Machine}
 use Rattle.rules.specs.declared.Marks.{Marks}
 use Rattle.rules.specs.declared.Instruction.{Instruction}
-use Rattle.rules.specs.Numbers.{p, heapEnd, clockEnd, cellLimit, valueLimit, bit}
+use Rattle.rules.specs.Numbers.{p, heapEnd, clockEnd, cellLimit, valueLimit, marksEnd, bit}
 use Rattle.rules.specs.Cells as Cells
 use Rattle.rules.specs.Cells.{numberCells, markCells, zipped}
 use Rattle.rules.specs.Step.{Environment, State, isStorable, overlay}
@@ -112,7 +112,7 @@ marksEntry g =
     all
     (eqb (length (g .marks)) (length (g .plain .addresses))
     ∷ every (λ t. leb t 1) (usedMarks g)
-    ∷ ltb (g .extras .registers) 1024
+    ∷ ltb (g .extras .registers) marksEnd
     ∷ markedNumbersBelow g
     ∷ [])
 

@@ -15,6 +15,7 @@ pub mod Guarded
 pub mod Answers
 pub mod Entry
 pub mod Calls
+pub mod Handed
 pub mod Solve
 -- statements about them: the frame of refusal 2, kilosteps, demand 3, the plain map, soundness
 pub mod MalformedFrames

@@ -42,6 +42,10 @@ cellLimit = 2048
 unfoldable pub valueLimit : ℕ
 valueLimit = 4096
 
+-- a word of marks, one bit for each of the ten registers, is below it
+abbrev pub marksEnd : ℕ
+marksEnd = 1024
+
 abbrev pub choose : {A : Type 0} → Bool → A → A → A
 choose true a b = a
 choose false a b = b

@@ -8,12 +8,12 @@ use crate::fields::put_ten;
 use crate::fields::ten_of;
 use crate::text::TEXT_SIZE;
 use crate::text::first_bytes;
+use guarded::Called;
 use machine::Answered;
-use machine::Stepped;
 use machine::GuardedMachine;
 use machine::GuardedStepped;
+use machine::Stepped;
 use rules::Machine;
-use guarded::Called;
 
 // The library's functions, each plain and guarded: those that run a program, and the one that steps a record where it is kept.
 pub(crate) enum Entry {

@@ -20,7 +20,7 @@ is-any-requires c κs = search needs
 returns : tie.Need-returns
 returns c =
     let s = c .before .before .before in
-    rw (c .is-any .ensures, c .before .sources .ensures) (in-mode (s .args .mode .guarded) (s .args .mode .«register_marks») _ (s .pre .1))
+    rw (c .is-any .ensures, c .before .sources .ensures) (in-mode (s .args .mode .guarded) (s .args .mode .extras .registers) _ (s .pre .1))
 
 pub is-source-marked-spec : {M : Type 1} → statement M
 is-source-marked-spec = tie.close (tie.spec sources-requires is-any-requires returns)

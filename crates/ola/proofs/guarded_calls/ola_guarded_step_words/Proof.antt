@@ -1,0 +1,58 @@
+-- `ola::guarded_calls::ola_guarded_step_words` meets its contract: the machine is read from its record and lent, and both records are written.
+use Rattle.rules.specs.Calls.{guardedWords}
+use Rattle.ola.proofs.LeftLaws.{guarded-left}
+use borrow.Author.Needs.{needs}
+use Rattle.ola.proofs.guarded_calls.ola_guarded_step_words.Statement.{statement}
+use Rattle.ola.proofs.guarded_calls.ola_guarded_step_words.Tie as tie
+
+machine-of-requires : tie.Need-machine-of-requires
+machine-of-requires c κs = search needs
+
+lend-and-step-guarded-requires : tie.Need-lend-and-step-guarded-requires
+lend-and-step-guarded-requires c κs = search needs
+
+answer-record-requires : tie.Need-answer-record-requires
+answer-record-requires c κs = search needs
+
+machine-record-requires : tie.Need-machine-record-requires
+machine-record-requires c κs = search needs
+
+same-length : tie.Need-same-length
+same-length c = search needs
+
+same-length-2 : tie.Need-same-length-2
+same-length-2 c = search needs
+
+same-length-3 : tie.Need-same-length-3
+same-length-3 c = search needs
+
+same-length-4 : tie.Need-same-length-4
+same-length-4 c = search needs
+
+same-length-5 : tie.Need-same-length-5
+same-length-5 c = search needs
+
+returns : tie.Need-returns
+returns c =
+    let s = c .before .before .before .before .before .before .before .before .before .before .before .before .before .before .before .lend-and-step-guarded .result in
+    guarded-left
+    (record { answer = s .answered .answer; steps = s .answered .steps; machine = s .machine .machine; «register_marks» = s .machine .«register_marks» })
+    (guardedWords _ _)
+    (c .before .before .before .before .before .before .before .before .before .before .before .before .before .before .before .before .before .before .before .before .before .before .machine-of .ensures)
+    (c .before .before .before .before .before .before .before .before .before .before .before .before .before .before .before .lend-and-step-guarded .ensures)
+    (c .before .answer-record .ensures) (c .machine-record .ensures)
+
+pub ola-guarded-step-words-spec : {M : Type 1} → statement M
+ola-guarded-step-words-spec =
+    tie.close
+    (tie.spec
+    machine-of-requires
+    lend-and-step-guarded-requires
+    answer-record-requires
+    machine-record-requires
+    same-length
+    same-length-2
+    same-length-3
+    same-length-4
+    same-length-5
+    returns)

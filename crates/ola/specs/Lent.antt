@@ -1,0 +1,44 @@
+-- What stands in the buffers that C lends, after a call.
+use Prim.Native.Nat.{ℕ}
+use mathlib.Core.List.{List}
+use Rattle.rules.specs.Entry.{Snapshot, GuardedSnapshot}
+use Rattle.rules.specs.Calls.{Called}
+use Rattle.records.specs.Records.{machineRecord, marksRecord, answerRecord}
+
+-- all that a plain call writes: two records, and the machine's buffers
+pub record Buffers : Type 0 where
+  pub answer : List ℕ
+  pub machine : List ℕ
+  pub addresses : List ℕ
+  pub numbers : List ℕ
+  pub tape : List ℕ
+  pub output : List ℕ
+
+-- a guarded call also writes the record of its extras, and the cells' marks
+pub record GuardedBuffers : Type 0 where
+  pub plain : Buffers
+  pub extras : List ℕ
+  pub marks : List ℕ
+
+abbrev pub buffers : List ℕ → List ℕ → List ℕ → List ℕ → List ℕ → List ℕ → Buffers
+buffers answer machine xs ns tape output =
+    record { answer = answer; machine = machine; addresses = xs; numbers = ns; tape = tape; output = output }
+
+abbrev pub guardedBuffers : List ℕ → List ℕ → List ℕ → List ℕ → List ℕ → List ℕ → List ℕ → List ℕ → GuardedBuffers
+guardedBuffers answer machine extras xs ns ts tape output =
+    record { plain = buffers answer machine xs ns tape output; extras = extras; marks = ts }
+
+abbrev leftIn : List ℕ → Snapshot → Buffers
+leftIn answer s = buffers answer (machineRecord (s .machine)) (s .addresses) (s .numbers) (s .tape) (s .output)
+
+-- what a call leaves
+abbrev pub plainLeft : Called Snapshot → Buffers
+plainLeft c = leftIn (answerRecord (c .answer) (c .steps)) (c .left)
+
+abbrev pub guardedLeft : Called GuardedSnapshot → GuardedBuffers
+guardedLeft c =
+    record {
+      plain = leftIn (answerRecord (c .answer) (c .steps)) (c .left .plain);
+      extras = marksRecord (c .left .extras);
+      marks = c .left .marks;
+    }

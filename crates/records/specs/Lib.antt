@@ -1,0 +1,2 @@
+-- What the contracts of `records` cite beside the rules: what each word of a record is.
+pub mod Records
