@@ -1,12 +1,9 @@
 -- Two guarded runs from states that differ in marked numbers alone: each step of the one is a step of the other.
-use Prim.Native.Nat.{ℕ, zero, suc, _<_}
+use Prim.Native.Nat.{ℕ, zero, suc}
 use mathlib.Core.Path.{_≡_, refl, ap, subst}
 use mathlib.Core.Bool.{Bool, true, false}
-use Rattle.rules.specs.declared.OlaOpcode.{OlaOpcode}
-use Rattle.rules.specs.declared.OlaOpcode.the-variants as O
 use Rattle.rules.specs.declared.Instruction.{Instruction}
 use Rattle.rules.specs.declared.Refusal.the-variants.{NoCapacity}
-use Rattle.rules.specs.Numbers.{p}
 use Rattle.rules.specs.Results.{GuardedResult, passes, after, guard}
 use Rattle.rules.specs.Cells.{count, numberCells, markCells}
 use Rattle.rules.specs.Opcodes.{Class, addition, multiplication, equality, small, complement, move, assert, rangeCheck, jump, conditionalJump, call, return, load, store, tapeLoad, tapeStore, contractCall, end, uncovered, classOf}
@@ -16,13 +13,14 @@ use Rattle.rules.specs.Guarded.{operandMark, sinksOf, operandSink, MarkS
 use Rattle.rules.specs.Relations.{passed, BothGuarded, refused-alike, sink-alike, passed-alike, BothRan}
 use Rattle.rules.proofs.Relational.{both-equal, both-require, both-after, both-finish}
 use Rattle.rules.proofs.BoolLaws.{or-left, or-right, or-equal}
-use Rattle.rules.proofs.AlikeStates.{StatesRelated, NextRelated, mod-below, unmarked, cells-count}
+use Rattle.rules.proofs.AlikeStates.{StatesRelated, NextRelated, unmarked, cells-count}
 use Rattle.rules.proofs.AlikeSteps.{
   OperandsRelated,
   operands-read,
   Agreed,
   operands-equal,
-  on-field,
+  on-addition,
+  on-multiplication,
   on-equality,
   on-small,
   on-complement,
@@ -42,58 +40,6 @@ use Rattle.rules.proofs.AlikeSteps.{
   on-uncovered,
 }
 
--- the field operations stay below p
-abbrev Bounded : Class → Type 0
-Bounded addition = (a b : ℕ) → fieldAdd a b < p
-Bounded multiplication = (a b : ℕ) → fieldMul a b < p
-Bounded (equality f) = Unit {0}
-Bounded (small f) = Unit {0}
-Bounded complement = Unit {0}
-Bounded move = Unit {0}
-Bounded assert = Unit {0}
-Bounded rangeCheck = Unit {0}
-Bounded jump = Unit {0}
-Bounded conditionalJump = Unit {0}
-Bounded call = Unit {0}
-Bounded return = Unit {0}
-Bounded load = Unit {0}
-Bounded store = Unit {0}
-Bounded tapeLoad = Unit {0}
-Bounded tapeStore = Unit {0}
-Bounded contractCall = Unit {0}
-Bounded end = Unit {0}
-Bounded uncovered = Unit {0}
-
-bounded : (o : OlaOpcode) → Bounded (classOf o)
-unfolding classOf
-bounded O.Add = λ a b. mod-below _
-bounded O.Mul = λ a b. mod-below _
-bounded O.Eq = tt
-bounded O.Assert = tt
-bounded O.Mov = tt
-bounded O.Jmp = tt
-bounded O.Cjmp = tt
-bounded O.Call = tt
-bounded O.Ret = tt
-bounded O.Mload = tt
-bounded O.Mstore = tt
-bounded O.End = tt
-bounded O.Rc = tt
-bounded O.And = tt
-bounded O.Or = tt
-bounded O.Xor = tt
-bounded O.Not = tt
-bounded O.Neq = tt
-bounded O.Gte = tt
-bounded O.Poseidon = tt
-bounded O.Sload = tt
-bounded O.Sstore = tt
-bounded O.Tload = tt
-bounded O.Tstore = tt
-bounded O.Sccall = tt
-bounded O.Sigcheck = tt
-bounded O.Event = tt
-
 -- All classes: what the operands' sinks let through agrees
 
 module _ (e : Environment) (t : MarkState markCells) (i : Instruction) {s u : State numberCells} (n : StatesRelated t s u) where
@@ -107,48 +53,48 @@ module _ (e : Environment) (t : MarkState markCells) (i : Instruction) {s u : St
   same-operands : (c : Class) {o q : Operands} → Agreed e t c i s u o o → o .op0 ≡ q .op0 → o .op1 ≡ q .op1 → o .dst ≡ q .dst → Agreed e t c i s u o q
   same-operands c {o} h a b d = subst (Agreed e t c i s u o) (operands-equal a b d) h
 
-  agreed : (c : Class) → Bounded c → {o q : Operands} → OperandsRelated t c i o q → operandSink (t .registers) c i ≡ false → Agreed e t c i s u o q
+  agreed : (c : Class) {o q : Operands} → OperandsRelated t c i o q → operandSink (t .registers) c i ≡ false → Agreed e t c i s u o q
   unfolding operandSink sinksOf wantsOf
-  agreed addition l r k = on-field e t i n fieldAdd l r
-  agreed multiplication l r k = on-field e t i n fieldMul l r
-  agreed (equality f) l r k = on-equality e t i n f r
-  agreed (small f) l {o} r k =
+  agreed addition r k = on-addition e t i n r
+  agreed multiplication r k = on-multiplication e t i n r
+  agreed (equality f) r k = on-equality e t i n f r
+  agreed (small f) {o} r k =
       let a : marked0 ≡ false = or-left _ _ k in
       let b : marked1 ≡ false = or-left _ _ (or-right marked0 _ k) in
       same-operands (small f) (on-small e t i n f o (or-equal a b)) (unmarked a (r .op0)) (unmarked b (r .op1)) (unmarked refl (r .dst))
-  agreed complement l r k = on-complement e t i n r
-  agreed move l r k = on-move e t i n r
-  agreed assert l {o} r k =
+  agreed complement r k = on-complement e t i n r
+  agreed move r k = on-move e t i n r
+  agreed assert {o} r k =
       same-operands assert (on-assert e t i n o) (unmarked refl (r .op0)) (unmarked (or-left _ _ k) (r .op1)) (unmarked refl (r .dst))
-  agreed rangeCheck l {o} r k =
+  agreed rangeCheck {o} r k =
       same-operands rangeCheck (on-range e t i n o) (unmarked refl (r .op0)) (unmarked (or-left _ _ k) (r .op1)) (unmarked refl (r .dst))
-  agreed jump l {o} r k =
+  agreed jump {o} r k =
       same-operands jump (on-jump e t i n o) (unmarked refl (r .op0)) (unmarked (or-left _ _ k) (r .op1)) (unmarked refl (r .dst))
-  agreed conditionalJump l {o} r k =
+  agreed conditionalJump {o} r k =
       same-operands conditionalJump (on-conditional e t i n o) (unmarked (or-left _ _ k) (r .op0)) (unmarked refl (r .op1)) (unmarked refl (r .dst))
-  agreed call l {o} r k =
+  agreed call {o} r k =
       same-operands call (on-call e t i n o (or-right marked1 _ k)) (unmarked refl (r .op0)) (unmarked (or-left _ _ k) (r .op1)) (unmarked refl (r .dst))
-  agreed return l {o} r k =
+  agreed return {o} r k =
       same-operands return (on-return e t i n o k) (unmarked refl (r .op0)) (unmarked refl (r .op1)) (unmarked refl (r .dst))
-  agreed load l {o} r k =
+  agreed load {o} r k =
       let b : marked1 ≡ false = or-left _ _ (or-right marked0 _ k) in
       same-operands load (on-load e t i n o) (unmarked (or-left _ _ k) (r .op0)) (unmarked b (r .op1)) (unmarked refl (r .dst))
-  agreed store l {o} r k =
+  agreed store {o} r k =
       let b : marked1 ≡ false = or-left _ _ (or-right marked0 _ k) in
       same-operands store (on-store e t i n o) (unmarked (or-left _ _ k) (r .op0)) (unmarked b (r .op1)) (unmarked refl (r .dst))
-  agreed tapeLoad l {o} r k =
+  agreed tapeLoad {o} r k =
       let b : marked1 ≡ false = or-left _ _ (or-right marked0 _ k) in
       let d : operandMark (t .registers) (i .dst) ≡ false = or-left _ _ (or-right marked1 _ (or-right marked0 _ k)) in
       same-operands tapeLoad (on-tape-load e t i n o) (unmarked (or-left _ _ k) (r .op0)) (unmarked b (r .op1)) (unmarked d (r .dst))
-  agreed tapeStore l {o} r k =
+  agreed tapeStore {o} r k =
       let b : marked1 ≡ false = or-left _ _ (or-right marked0 _ k) in
       same-operands tapeStore (on-tape-store e t i n o) (unmarked (or-left _ _ k) (r .op0)) (unmarked b (r .op1)) (unmarked refl (r .dst))
-  agreed contractCall l {o} r k =
+  agreed contractCall {o} r k =
       let b : marked1 ≡ false = or-left _ _ (or-right marked0 _ k) in
       same-operands contractCall (on-contract-call e t i n o) (unmarked (or-left _ _ k) (r .op0)) (unmarked b (r .op1)) (unmarked refl (r .dst))
-  agreed end l {o} r k =
+  agreed end {o} r k =
       same-operands end (on-end e t i n o) (unmarked refl (r .op0)) (unmarked refl (r .op1)) (unmarked refl (r .dst))
-  agreed uncovered l {o} r k =
+  agreed uncovered {o} r k =
       same-operands uncovered (on-uncovered e t i n o) (unmarked refl (r .op0)) (unmarked refl (r .op1)) (unmarked refl (r .dst))
 
 -- A whole guarded step of two related states with the same marks
@@ -179,7 +125,7 @@ last-stage e false t h =
     both-after _ _ (both-require NoCapacity (fits-alike e (h refl .state)) (passed (h refl))) λ a b r.
     passed-alike (record { marks = refl; next = r })
 
-module _ (e : Environment) (t : MarkState markCells) {s u : State numberCells} (n : StatesRelated t s u) (i : Instruction) (c : Class) (l : Bounded c) {o q : Operands} (r : OperandsRelated t c i o q) where
+module _ (e : Environment) (t : MarkState markCells) {s u : State numberCells} (n : StatesRelated t s u) (i : Instruction) (c : Class) {o q : Operands} (r : OperandsRelated t c i o q) where
   rest-stage : Agreed e t c i s u o q → BothGuarded GuardedNextRelated (guardedRest numberCells markCells e t c i s o) (guardedRest numberCells markCells e t c i u q)
   unfolding guardedRest
   rest-stage d =
@@ -190,7 +136,7 @@ module _ (e : Environment) (t : MarkState markCells) {s u : State numberCells} (
       → BothGuarded GuardedNextRelated (guard b (guardedRest numberCells markCells e t c i s o)) (guard b (guardedRest numberCells markCells e t c i u q))
   unfolding guard
   sink-stage true k = sink-alike
-  sink-stage false k = rest-stage (agreed e t i n c l r k)
+  sink-stage false k = rest-stage (agreed e t i n c r k)
 
 step-agrees : (e : Environment) (t : MarkState markCells) {s u : State numberCells} → StatesRelated t s u
     → BothGuarded GuardedNextRelated (guardedStep numberCells markCells e (record { plain = s; marks = t })) (guardedStep numberCells markCells e (record { plain = u; marks = t }))
@@ -199,7 +145,7 @@ step-agrees e t {s} {u} n =
     both-after _ _ (both-equal (ap (fetch (e .program)) (n .pc))) λ i j k.
     subst (λ j. BothGuarded GuardedNextRelated (now s i) (now u j)) k
     (both-after _ _ (operands-read (e .psp) t (classOf (i .opcode)) i n) λ o q r.
-    sink-stage e t n i (classOf (i .opcode)) (bounded (i .opcode)) r (operandSink (t .registers) (classOf (i .opcode)) i) refl)
+    sink-stage e t n i (classOf (i .opcode)) r (operandSink (t .registers) (classOf (i .opcode)) i) refl)
   where
     now : State numberCells → Instruction → GuardedResult (GuardedNext numberCells markCells)
     now s i =

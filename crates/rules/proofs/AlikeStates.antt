@@ -16,7 +16,7 @@ use Rattle.rules.specs.Results.{pass, bind}
 use Rattle.rules.specs.Field.{isElement, fieldAdd, fieldMul}
 use Rattle.rules.specs.Memory.{Slot, absent, present}
 use Rattle.rules.specs.Cells.{Cells, none, cell, get, put, count, numberCells, markCells}
-use Rattle.rules.specs.Operands.{Want, ignored, lacking, value, register, target, inField, valueOf, targetOf, absence, operand}
+use Rattle.rules.specs.Operands.{Want, ignored, lacking, value, later, register, target, inField, valueOf, targetOf, absence, operand}
 use Rattle.rules.specs.Step.{State, Next, isStorable, slotValue, readBelow, readMany, readSpan, storeMany, storeOne}
 use Rattle.rules.specs.Guarded.{registerMark, operandMark, MarkState, slotMark, cellMark, spanMark, cleanMany}
 use Rattle.rules.specs.Relations.{Both, both-refused, passed}
@@ -202,6 +202,7 @@ abbrev pub readMark : List Bool → Want → OlaOperand → Bool
 readMark l ignored o = false
 readMark l lacking o = false
 readMark l value o = operandMark l o
+readMark l later o = false
 readMark l register o = operandMark l o
 readMark l target o = false
 
@@ -237,5 +238,6 @@ unfolding operand
 operand-read psp h ignored o = passed (equal refl)
 operand-read psp h lacking o = both-same (λ n. equal refl) (absence o)
 operand-read psp h value o = value-operand psp h o
+operand-read psp h later o = passed (equal refl)
 operand-read psp h register o = register-operand h o
 operand-read psp h target o = both-same (λ n. equal refl) (targetOf o)

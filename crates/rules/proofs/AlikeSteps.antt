@@ -9,7 +9,8 @@ use lib.ListN.{length, length-set, length-append}
 use Rattle.rules.specs.declared.Instruction.{Instruction}
 use Rattle.rules.specs.declared.Refusal.the-variants.{NotInField, NotSmall, AssertFailed, RangeCheckFailed, StoreFault, TapeFault}
 use Rattle.rules.specs.Numbers.{p, choose, bit}
-use Rattle.rules.specs.Field.{fieldAdd, fieldComplement}
+use Rattle.rules.specs.Field.{isElement, fieldAdd, fieldMul, fieldComplement}
+use Rattle.rules.specs.Results.{pass, require}
 use Rattle.rules.specs.Cells.{Cells, put, numberCells, markCells}
 use Rattle.rules.specs.Opcodes.{Class, addition, multiplication, equality, small, complement, move, assert, rangeCheck, jump, conditionalJump, call, return, load, store, tapeLoad, tapeStore, contractCall, end, uncovered}
 use Rattle.rules.specs.Operands.{binaryLength, wantsOf, Operands, operands}
@@ -24,6 +25,7 @@ use Rattle.rules.proofs.AlikeStates.{
   NextRelated,
   CellsRelated,
   one-below,
+  mod-below,
   related-element,
   unmarked,
   equally,
@@ -154,26 +156,36 @@ module _ (e : Environment) (t : MarkState markCells) (i : Instruction) {s u : St
 
   -- classes without sinks: marked operands go into the result
 
-  pub on-field : (f : ℕ → ℕ → ℕ) → ((a b : ℕ) → f a b < p) → {o q : Operands} → OperandsRelated t (field f) i o q → Agreed e t (field f) i s u o q
+  -- no mark is on the place of a target: both have the same
+  same-target : (c : Class) → markDst t c i ≡ false → {o q : Operands} → OperandsRelated t c i o q
+      → Agreed e t c i s u o (record { op0 = q .op0; op1 = q .op1; dst = o .dst }) → Agreed e t c i s u o q
+  same-target c k {o} {q} r h = subst (λ d. Agreed e t c i s u o (record { op0 = q .op0; op1 = q .op1; dst = d })) (unmarked k (r .dst)) h
+
+  -- ADD and MUL: f of two elements, to register r
+  in-field : (f : ℕ → ℕ → ℕ) → ((a b : ℕ) → f a b < p) → {S : Type 0} {j k : Bool} {a b v w : ℕ} → Related j a b → Related k v w → (r : ℕ)
+      → Both (λ x y. S → NextRelated (marksRegister markCells t r (j || k)) x y)
+      (require (isElement a) NotInField (require (isElement v) NotInField (pass (writesRegister numberCells s (nextPc numberCells s i) r (f a v)))))
+      (require (isElement b) NotInField (require (isElement w) NotInField (pass (writesRegister numberCells u (nextPc numberCells u i) r (f b w)))))
+  in-field f l g h r =
+      both-require NotInField (related-element g)
+      (both-require NotInField (related-element h) (passed λ _. register-written n (next-pc n i) r (related-both f l g h)))
+
+  pub on-addition : {o q : Operands} → OperandsRelated t addition i o q → Agreed e t addition i s u o q
   unfolding readSink marksAfter operate wantsOf
-  on-field f l {o} {q} r =
-      let z : o .dst ≡ q .dst = unmarked refl (r .dst) in
-      subst (λ d. Agreed e t addition i s u o (record { op0 = q .op0; op1 = q .op1; dst = d })) z
-      subst (λ d. Agreed e t multiplication i s u o (record { op0 = q .op0; op1 = q .op1; dst = d })) z
-      (record {
-        sinks = refl;
-        marks = refl;
-        next =
-            both-require NotInField (related-element (r .op0))
-            (both-require NotInField (related-element (r .op1))
-            (passed λ k. register-written n (next-pc n i) (o .dst) (related-both f l (r .op0) (r .op1))));
-      })
+  on-addition {o} r =
+      same-target addition refl r
+      (record { sinks = refl; marks = refl; next = in-field fieldAdd (λ a b. mod-below _) (r .op0) (r .op1) (o .dst) })
+
+  pub on-multiplication : {o q : Operands} → OperandsRelated t multiplication i o q → Agreed e t multiplication i s u o q
+  unfolding readSink marksAfter operate wantsOf
+  on-multiplication {o} r =
+      same-target multiplication refl r
+      (record { sinks = refl; marks = refl; next = in-field fieldMul (λ a b. mod-below _) (r .op0) (r .op1) (o .dst) })
 
   pub on-equality : (f : Bool → Bool) {o q : Operands} → OperandsRelated t (equality f) i o q → Agreed e t (equality f) i s u o q
   unfolding readSink marksAfter operate wantsOf
-  on-equality f {o} {q} r =
-      let z : o .dst ≡ q .dst = unmarked refl (r .dst) in
-      subst (λ d. Agreed e t (equality f) i s u o (record { op0 = q .op0; op1 = q .op1; dst = d })) z
+  on-equality f {o} r =
+      same-target (equality f) refl r
       (record {
         sinks = refl;
         marks = refl;
@@ -183,9 +195,8 @@ module _ (e : Environment) (t : MarkState markCells) (i : Instruction) {s u : St
 
   pub on-complement : {o q : Operands} → OperandsRelated t complement i o q → Agreed e t complement i s u o q
   unfolding readSink marksAfter operate wantsOf
-  on-complement {o} {q} r =
-      let z : o .dst ≡ q .dst = unmarked refl (r .dst) in
-      subst (λ d. Agreed e t complement i s u o (record { op0 = q .op0; op1 = q .op1; dst = d })) z
+  on-complement {o} r =
+      same-target complement refl r
       (record {
         sinks = refl;
         marks = refl;
@@ -196,10 +207,8 @@ module _ (e : Environment) (t : MarkState markCells) (i : Instruction) {s u : St
 
   pub on-move : {o q : Operands} → OperandsRelated t move i o q → Agreed e t move i s u o q
   unfolding readSink marksAfter operate wantsOf
-  on-move {o} {q} r =
-      let z : o .dst ≡ q .dst = unmarked refl (r .dst) in
-      subst (λ d. Agreed e t move i s u o (record { op0 = q .op0; op1 = q .op1; dst = d })) z
-      (record { sinks = refl; marks = refl; next = passed λ k. register-written n (next-pc n i) (o .dst) (r .op1) })
+  on-move {o} r =
+      same-target move refl r (record { sinks = refl; marks = refl; next = passed λ k. register-written n (next-pc n i) (o .dst) (r .op1) })
 
   -- classes whose operands are unmarked past the sinks: both have the same
 

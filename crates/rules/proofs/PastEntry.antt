@@ -15,7 +15,7 @@ use Rattle.rules.specs.Results.{Result, GuardedResult}
 use Rattle.rules.specs.Field.{fieldAdd, fieldMul}
 use Rattle.rules.specs.Memory.{Slot, absent, present, Memory}
 use Rattle.rules.specs.Opcodes.{Class, addition, multiplication, equality, small, complement, move, assert, rangeCheck, jump, conditionalJump, call, return, load, store, tapeLoad, tapeStore, contractCall, end, uncovered}
-use Rattle.rules.specs.Operands.{binaryLength, instructionAt, fetch, Want, ignored, lacking, value, register, target, inField, valueOf, targetOf, absence, operand, Operands, operands}
+use Rattle.rules.specs.Operands.{binaryLength, instructionAt, fetch, Want, ignored, lacking, value, later, register, target, inField, valueOf, targetOf, absence, operand, Operands, operands}
 use Rattle.rules.specs.Step.{Environment, State, Next, Finish, goesOn, ends, calls, delegates, Ran, onClock, onFinish, r9, slotValue, read, readBelow, readMany, readSpan, storeMany, operate, capacity, step, onStep, run}
 use Rattle.rules.specs.Guarded.{MarkState, GuardedState, GuardedNext, guardedRest, guardedStep, onGuardedStep, guardedRun}
 use Rattle.rules.specs.Answers.{Meaning, outcome, refusal, refusalMeaning, meaning}
@@ -84,6 +84,7 @@ unfolding operand
 operand-read psp registers ignored o = passed
 operand-read psp registers lacking o = lacked o
 operand-read psp registers value o = valued psp registers o
+operand-read psp registers later o = passed
 operand-read psp registers register o = refusing-bind _ (targeted o) λ r. passed
 operand-read psp registers target o = targeted o
 

@@ -15,11 +15,11 @@ use Rattle.hexadecimal.proofs.put_digits.Statement.{statement}
 use Rattle.hexadecimal.proofs.put_digits.Tie as tie
 
 abbrev Inv-loop : tie.InvT-loop
-Inv-loop buffer₀ at v n left₀ rest₀ buffer left rest =
+Inv-loop at v n buffer₀ left₀ rest₀ buffer left rest =
     (left ≤ n) × (at + n ≤ length buffer₀) × (length buffer ≡ length buffer₀) × (overlayAt buffer at (lowDigits left rest) ≡ overlayAt buffer₀ at (lowDigits n v))
 
 abbrev μ-loop : tie.MeasureT-loop
-μ-loop buffer₀ at v n left₀ rest₀ buffer left rest = left
+μ-loop at v n buffer₀ left₀ rest₀ buffer left rest = left
 
 sub-if2 : tie.Need-sub-if2 Inv-loop μ-loop
 sub-if2 c = search needs

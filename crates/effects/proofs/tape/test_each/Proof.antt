@@ -12,10 +12,10 @@ use Rattle.effects.proofs.tape.test_each.Statement.{statement}
 use Rattle.effects.proofs.tape.test_each.Tie as tie
 
 abbrev Inv-loop : tie.InvT-loop
-Inv-loop values start i₀ i = (i ≤ length values) × (testsOf start values ≡ testsOf (start + i) (drop i values))
+Inv-loop start values i₀ i = (i ≤ length values) × (testsOf start values ≡ testsOf (start + i) (drop i values))
 
 abbrev μ-loop : tie.MeasureT-loop
-μ-loop values start i₀ i = length values - i
+μ-loop start values i₀ i = length values - i
 
 loop-holds : tie.Need-loop-holds Inv-loop μ-loop
 loop-holds c = (search needs, rw add-zero)

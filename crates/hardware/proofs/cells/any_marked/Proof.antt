@@ -9,10 +9,10 @@ use Rattle.hardware.proofs.cells.any_marked.Statement.{statement}
 use Rattle.hardware.proofs.cells.any_marked.Tie as tie
 
 abbrev Inv-loop : tie.InvT-loop
-Inv-loop marks at n i₀ i = (i ≤ n) × (anyMark (take (n - i) (drop (at + i) marks)) ≡ anyMark (take n (drop at marks)))
+Inv-loop at n marks i₀ i = (i ≤ n) × (anyMark (take (n - i) (drop (at + i) marks)) ≡ anyMark (take n (drop at marks)))
 
 abbrev μ-loop : tie.MeasureT-loop
-μ-loop marks at n i₀ i = n - i
+μ-loop at n marks i₀ i = n - i
 
 loop-holds : tie.Need-loop-holds Inv-loop μ-loop
 loop-holds c = (zero-le, marks-start (c .args .marks .now) (c .args .at) (c .args .n))

@@ -13,11 +13,11 @@ use Rattle.hardware.proofs.cells.insert_at.Statement.{statement}
 use Rattle.hardware.proofs.cells.insert_at.Tie as tie
 
 abbrev Inv-loop : tie.InvT-loop
-Inv-loop buffer₀ count at v i₀ buffer i =
+Inv-loop count at v buffer₀ i₀ buffer i =
     (at ≤ i) × (i ≤ count) × ((w : ℕ) × (buffer ≡ overlay (insertAt i w (take count buffer₀)) buffer₀)) × (length buffer ≡ length buffer₀)
 
 abbrev μ-loop : tie.MeasureT-loop
-μ-loop buffer₀ count at v i₀ buffer i = i
+μ-loop count at v buffer₀ i₀ buffer i = i
 
 loop-holds : tie.Need-loop-holds Inv-loop μ-loop
 loop-holds c = (c .pre .0, le-refl _, (_, insert-start _ _ (c .pre .1)), refl)

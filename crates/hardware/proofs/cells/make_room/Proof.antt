@@ -113,7 +113,7 @@ returns c =
     let w = c .before .before .number-cells in (
       omega arith,
       (
-        room-numbered (a .count) (a .low) (high f) (a .n) (a .low + a .n - a .low) (a .start) (a .addresses .now) (u .last .0) (w .last .0)
+        room-numbered (a .count) (a .low) (high f) (a .n) (a .low + a .n - a .low) (a .start) (a .addresses .now) (u .last .1 .1 .1) (w .last .1)
             e (omega arith) (omega arith) (omega arith) (u .ensures ∙ behind f (a .addresses .now)) (w .ensures),
         (
           m .0 ∙ behind f (a .numbers .now),

@@ -11,11 +11,11 @@ use Rattle.hardware.proofs.cells.move_up.Statement.{statement}
 use Rattle.hardware.proofs.cells.move_up.Tie as tie
 
 abbrev Inv-loop : tie.InvT-loop
-Inv-loop buffer₀ count from n i₀ buffer i =
+Inv-loop count from n buffer₀ i₀ buffer i =
     (from ≤ i) × (i ≤ count) × (buffer ≡ moved count i (i + n) buffer₀) × (length buffer ≡ length buffer₀)
 
 abbrev μ-loop : tie.MeasureT-loop
-μ-loop buffer₀ count from n i₀ buffer i = i
+μ-loop count from n buffer₀ i₀ buffer i = i
 
 loop-holds : tie.Need-loop-holds Inv-loop μ-loop
 loop-holds c = (c .pre .0, le-refl _, moved-none (c .args .count) (c .args .count + c .args .n) (c .args .buffer .now) (omega arith), refl)

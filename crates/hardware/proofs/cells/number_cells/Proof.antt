@@ -15,13 +15,13 @@ use Rattle.hardware.proofs.cells.number_cells.Statement.{statement}
 use Rattle.hardware.proofs.cells.number_cells.Tie as tie
 
 abbrev Inv-loop : tie.InvT-loop
-Inv-loop addresses₀ start i₀ addresses i =
+Inv-loop start addresses₀ i₀ addresses i =
     (i ≤ length addresses₀)
     × (addresses ≡ overlay (take i (consecutive start (length addresses₀))) addresses₀)
     × (length addresses ≡ length addresses₀)
 
 abbrev μ-loop : tie.MeasureT-loop
-μ-loop addresses₀ start i₀ addresses i = length addresses₀ - i
+μ-loop start addresses₀ i₀ addresses i = length addresses₀ - i
 
 loop-holds : tie.Need-loop-holds Inv-loop μ-loop
 loop-holds c = (zero-le, refl, refl)

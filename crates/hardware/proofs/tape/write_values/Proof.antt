@@ -11,10 +11,10 @@ use Rattle.hardware.proofs.tape.write_values.Statement.{statement}
 use Rattle.hardware.proofs.tape.write_values.Tie as tie
 
 abbrev Inv-loop : tie.InvT-loop
-Inv-loop free₀ values i₀ free i = (i ≤ length values) × (free ≡ overlay (take i values) free₀) × (length free ≡ length free₀)
+Inv-loop values free₀ i₀ free i = (i ≤ length values) × (free ≡ overlay (take i values) free₀) × (length free ≡ length free₀)
 
 abbrev μ-loop : tie.MeasureT-loop
-μ-loop free₀ values i₀ free i = length values - i
+μ-loop values free₀ i₀ free i = length values - i
 
 loop-holds : tie.Need-loop-holds Inv-loop μ-loop
 loop-holds c = (zero-le, refl, refl)

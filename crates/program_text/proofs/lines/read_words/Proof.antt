@@ -14,10 +14,10 @@ use Rattle.program_text.proofs.lines.read_words.Statement.{statement}
 use Rattle.program_text.proofs.lines.read_words.Tie as tie
 
 abbrev Inv-loop : tie.InvT-loop
-Inv-loop text at count words₀ used i₀ words i = Joined (drop at text) count used words₀ words i
+Inv-loop text at count used words₀ i₀ words i = Joined (drop at text) count used words₀ words i
 
 abbrev μ-loop : tie.MeasureT-loop
-μ-loop text at count words₀ used i₀ words i = count - i
+μ-loop text at count used words₀ i₀ words i = count - i
 
 loop-holds : tie.Need-loop-holds Inv-loop μ-loop
 loop-holds c = joined-none _ _ _ _ (c .before .pre .1 .1)

@@ -14,11 +14,11 @@ use Rattle.report.proofs.lines.put_values.Statement.{statement}
 use Rattle.report.proofs.lines.put_values.Tie as tie
 
 abbrev Inv-loop : tie.InvT-loop
-Inv-loop buffer₀ from values at₀ i₀ buffer at i =
+Inv-loop from values buffer₀ at₀ i₀ buffer at i =
     (length buffer ≡ length buffer₀) × Rest (valueLines values) buffer₀ from (valueLines (drop i values)) buffer at
 
 abbrev μ-loop : tie.MeasureT-loop
-μ-loop buffer₀ from values at₀ i₀ buffer at i = length values - i
+μ-loop from values buffer₀ at₀ i₀ buffer at i = length values - i
 
 loop-holds : tie.Need-loop-holds Inv-loop μ-loop
 loop-holds c = (refl, rest-all (c .before .before .pre))
