@@ -1,4 +1,4 @@
-//! Links the static library: from the folder in `OLA_LIBRARY`, by default where `rt staticlib capi` puts it.
+//! Links the static library: from the folder in `OLA_LIBRARY`, by default where `rt staticlib ola` puts it.
 
 use std::env;
 use std::path::Path;
@@ -10,13 +10,13 @@ fn main() {
         Ok(folder) => root.join(folder),
         Err(_) => root.join("target/staticlib"),
     };
-    let archive = folder.join("libcapi.a");
+    let archive = folder.join("libola.a");
     assert!(
         archive.exists(),
-        "{} is missing: run `rt staticlib capi` first",
+        "{} is missing: run `rt staticlib ola` first, or set OLA_LIBRARY to the folder that has libola.a",
         archive.display()
     );
     println!("cargo:rerun-if-changed={}", archive.display());
     println!("cargo:rustc-link-search=native={}", folder.display());
-    println!("cargo:rustc-link-lib=static=capi");
+    println!("cargo:rustc-link-lib=static=ola");
 }

@@ -1,11 +1,14 @@
-//! The proved step machine for Rust: safe functions over the static library that `rt staticlib capi` writes.
+//! The proved step machine for Rust: safe functions over the static library that `rt staticlib ola` writes.
 //!
 //! Each call takes what it is lent, checks it, and answers; nothing is asked of the caller. include/ola.h describes the records and the
 //! numbers of outcomes and refusals, conformance/RULES.md what the machine does.
+//!
+//! `Lent` has all that a call is lent, and the calls as methods. The functions are the same calls on records and buffers that are kept
+//! elsewhere, as the functions of C whose names end in `_in`.
 
 mod c;
 
-/// The greatest lengths that are not refused: of addresses, numbers and marks; of the tape, and of the output.
+/// The greatest capacities that are not refused: of addresses, numbers and marks; of the tape, and of the output.
 pub const MOST_CELLS: usize = 2048;
 pub const MOST_VALUES: usize = 4096;
 
@@ -69,6 +72,14 @@ impl Default for Machine {
     }
 }
 
+/// The extras of a guarded call, in the order of the record's words. Later versions add fields: start from the default.
+#[repr(C)]
+#[derive(Debug, Clone, Copy, PartialEq, Eq, Default)]
+pub struct Marks {
+    /// Bit r is set where register r is marked.
+    pub registers: u64,
+}
+
 /// An answer, in the order of the record's words.
 #[repr(C)]
 #[derive(Debug, Clone, Copy, PartialEq, Eq, Default)]
@@ -98,24 +109,21 @@ pub enum Program<'a> {
     BudgetText { text: &'a [u8] },
 }
 
-/// All that is lent to a call. The plain run does not look at marks.
+/// The buffers of a call: vectors, or slices and arrays that are kept elsewhere. The length of each is its capacity.
 #[derive(Debug, Clone, PartialEq, Eq)]
-pub struct Lent {
-    pub machine: Machine,
-    pub register_marks: u64,
-    pub addresses: Vec<u64>,
-    pub numbers: Vec<u64>,
-    pub marks: Vec<u64>,
-    pub tape: Vec<u64>,
-    pub output: Vec<u64>,
+pub struct Buffers<B = Vec<u64>> {
+    pub addresses: B,
+    pub numbers: B,
+    /// For guarded calls; plain calls do not look at it.
+    pub marks: B,
+    pub tape: B,
+    pub output: B,
 }
 
-/// The start of `solve`, in buffers of the greatest lengths.
-impl Default for Lent {
-    fn default() -> Lent {
-        Lent {
-            machine: Machine::default(),
-            register_marks: 0,
+/// Vectors of the greatest capacities.
+impl Default for Buffers {
+    fn default() -> Buffers {
+        Buffers {
             addresses: vec![0; MOST_CELLS],
             numbers: vec![0; MOST_CELLS],
             marks: vec![0; MOST_CELLS],
@@ -125,84 +133,45 @@ impl Default for Lent {
     }
 }
 
-/// What is lent to a call, as slices: for a caller that says itself where each of them stands.
-pub struct Slices<'a> {
-    pub machine: &'a mut Machine,
-    pub register_marks: &'a mut u64,
-    pub addresses: &'a mut [u64],
-    pub numbers: &'a mut [u64],
-    pub marks: &'a mut [u64],
-    pub tape: &'a mut [u64],
-    pub output: &'a mut [u64],
-}
-
-impl Lent {
-    fn slices(&mut self) -> Slices<'_> {
-        Slices {
-            machine: &mut self.machine,
-            register_marks: &mut self.register_marks,
-            addresses: &mut self.addresses,
-            numbers: &mut self.numbers,
-            marks: &mut self.marks,
-            tape: &mut self.tape,
-            output: &mut self.output,
-        }
-    }
-
-    /// What a program that ended hands back.
-    pub fn used_output(&self) -> &[u64] {
-        let count = self.output.len().min(self.machine.output_count as usize);
-        &self.output[..count]
+impl<B: AsMut<[u64]>> Buffers<B> {
+    /// In the order of C's parameters.
+    fn to_write(&mut self) -> [&mut [u64]; 5] {
+        [
+            self.addresses.as_mut(),
+            self.numbers.as_mut(),
+            self.marks.as_mut(),
+            self.tape.as_mut(),
+            self.output.as_mut(),
+        ]
     }
 }
 
-// The functions of C take a slice as its first element's address and its length. The two macros call one of them: with a program, a
-// budget where it takes one, what is lent, by `as_ptr` or `as_mut_ptr`, and the answer's record.
+impl<B: AsRef<[u64]>> Buffers<B> {
+    /// Likewise.
+    fn to_read(&self) -> [&[u64]; 5] {
+        [
+            self.addresses.as_ref(),
+            self.numbers.as_ref(),
+            self.marks.as_ref(),
+            self.tape.as_ref(),
+            self.output.as_ref(),
+        ]
+    }
+}
+
+/// Calls a function of C: with a program, numbers and records, buffers by `as_ptr` or `as_mut_ptr`, and the answer. A slice is passed as
+/// its first element's address and its length.
 //
-// SAFETY of both: each address is that of as many elements as the length behind it says; what is written is borrowed mutably, so that
-// nothing lent overlaps it; the records have the layout of include/ola.h.
-
-macro_rules! plain {
-    ($function:ident($program:expr $(, $budget:expr)?), $lent:ident, $machine:expr, $pointer:ident, $answer:expr) => {
+// SAFETY: each address is that of as many elements as the length behind it says; what is written is borrowed mutably, so that nothing lent
+// overlaps it; the records have the layout of include/ola.h.
+macro_rules! call {
+    ($function:ident($program:ident; $($given:ident),+; $($buffer:ident),+; $answer:ident), $pointer:ident) => {
         unsafe {
             c::$function(
                 $program.as_ptr(),
                 $program.len(),
-                $($budget,)?
-                $machine,
-                $lent.addresses.$pointer(),
-                $lent.addresses.len(),
-                $lent.numbers.$pointer(),
-                $lent.numbers.len(),
-                $lent.tape.$pointer(),
-                $lent.tape.len(),
-                $lent.output.$pointer(),
-                $lent.output.len(),
-                $answer,
-            )
-        }
-    };
-}
-
-macro_rules! guarded {
-    ($function:ident($program:expr $(, $budget:expr)?), $lent:ident, $machine:expr, $pointer:ident, $answer:expr) => {
-        unsafe {
-            c::$function(
-                $program.as_ptr(),
-                $program.len(),
-                $($budget,)?
-                $machine,
-                $lent.register_marks,
-                $lent.addresses.$pointer(),
-                $lent.addresses.len(),
-                $lent.numbers.$pointer(),
-                $lent.numbers.len(),
-                $lent.marks.$pointer(),
-                $lent.marks.len(),
-                $lent.tape.$pointer(),
-                $lent.tape.len(),
-                $lent.output.$pointer(),
-                $lent.output.len(),
+                $($given,)+
+                $($buffer.$pointer(), $buffer.len(),)+
                 $answer,
             )
         }
@@ -210,181 +179,185 @@ macro_rules! guarded {
 }
 
 /// The plain run.
-pub fn run(program: Program, lent: &mut Lent) -> Answer {
-    let mut answer = Answer::default();
-    run_slices(program, lent.slices(), &mut answer);
-    answer
-}
-
-/// The guarded run.
-pub fn run_guarded(program: Program, lent: &mut Lent) -> Answer {
-    let mut answer = Answer::default();
-    run_guarded_slices(program, lent.slices(), &mut answer);
-    answer
-}
-
-/// The plain run, in slices.
-pub fn run_slices(program: Program, lent: Slices, answer: &mut Answer) {
+pub fn run<B: AsMut<[u64]>>(
+    program: Program,
+    machine: &mut Machine,
+    buffers: &mut Buffers<B>,
+    answer: &mut Answer,
+) {
+    let [addresses, numbers, _, tape, output] = buffers.to_write();
     match program {
         Program::Words { words, budget } => {
-            plain!(
-                ola_run_words(words, budget),
-                lent,
-                lent.machine,
-                as_mut_ptr,
-                answer
-            )
+            call!(ola_run_words(words; budget, machine; addresses, numbers, tape, output; answer), as_mut_ptr)
         }
         Program::Text { text, budget } => {
-            plain!(
-                ola_run_text(text, budget),
-                lent,
-                lent.machine,
-                as_mut_ptr,
-                answer
-            )
+            call!(ola_run_text(text; budget, machine; addresses, numbers, tape, output; answer), as_mut_ptr)
         }
         Program::BudgetText { text } => {
-            plain!(
-                ola_run_budget_text(text),
-                lent,
-                lent.machine,
-                as_mut_ptr,
-                answer
-            )
+            call!(ola_run_budget_text(text; machine; addresses, numbers, tape, output; answer), as_mut_ptr)
         }
     }
 }
 
-/// The guarded run, in slices.
-pub fn run_guarded_slices(program: Program, lent: Slices, answer: &mut Answer) {
+/// The guarded run.
+pub fn guarded_run<B: AsMut<[u64]>>(
+    program: Program,
+    machine: &mut Machine,
+    extras: &mut Marks,
+    buffers: &mut Buffers<B>,
+    answer: &mut Answer,
+) {
+    let [addresses, numbers, marks, tape, output] = buffers.to_write();
     match program {
         Program::Words { words, budget } => {
-            guarded!(
-                ola_guarded_run_words(words, budget),
-                lent,
-                lent.machine,
-                as_mut_ptr,
-                answer
-            )
+            call!(ola_guarded_run_words(words; budget, machine, extras; addresses, numbers, marks, tape, output; answer), as_mut_ptr)
         }
         Program::Text { text, budget } => {
-            guarded!(
-                ola_guarded_run_text(text, budget),
-                lent,
-                lent.machine,
-                as_mut_ptr,
-                answer
-            )
+            call!(ola_guarded_run_text(text; budget, machine, extras; addresses, numbers, marks, tape, output; answer), as_mut_ptr)
         }
         Program::BudgetText { text } => {
-            guarded!(
-                ola_guarded_run_budget_text(text),
-                lent,
-                lent.machine,
-                as_mut_ptr,
-                answer
-            )
+            call!(ola_guarded_run_budget_text(text; machine, extras; addresses, numbers, marks, tape, output; answer), as_mut_ptr)
         }
     }
 }
 
 /// One plain step.
-pub fn step(words: &[u64], lent: &mut Lent) -> Answer {
-    let mut answer = Answer::default();
-    let lent = lent.slices();
-    plain!(
-        ola_step_words(words),
-        lent,
-        lent.machine,
-        as_mut_ptr,
-        &mut answer
-    );
-    answer
+pub fn step<B: AsMut<[u64]>>(
+    words: &[u64],
+    machine: &mut Machine,
+    buffers: &mut Buffers<B>,
+    answer: &mut Answer,
+) {
+    let [addresses, numbers, _, tape, output] = buffers.to_write();
+    call!(ola_step_words(words; machine; addresses, numbers, tape, output; answer), as_mut_ptr)
 }
 
 /// One guarded step.
-pub fn step_guarded(words: &[u64], lent: &mut Lent) -> Answer {
-    let mut answer = Answer::default();
-    let lent = lent.slices();
-    guarded!(
-        ola_guarded_step_words(words),
-        lent,
-        lent.machine,
-        as_mut_ptr,
-        &mut answer
-    );
-    answer
+pub fn guarded_step<B: AsMut<[u64]>>(
+    words: &[u64],
+    machine: &mut Machine,
+    extras: &mut Marks,
+    buffers: &mut Buffers<B>,
+    answer: &mut Answer,
+) {
+    let [addresses, numbers, marks, tape, output] = buffers.to_write();
+    call!(ola_guarded_step_words(words; machine, extras; addresses, numbers, marks, tape, output; answer), as_mut_ptr)
 }
 
 /// What a plain run would be refused with before its first step; outcome e3 after 0 steps where it would begin. The budget does not matter.
-pub fn check(program: Program, lent: &Lent) -> Answer {
-    let mut answer = Answer::default();
+pub fn check<B: AsRef<[u64]>>(
+    program: Program,
+    machine: &Machine,
+    buffers: &Buffers<B>,
+    answer: &mut Answer,
+) {
+    let [addresses, numbers, _, tape, output] = buffers.to_read();
     match program {
         Program::Words { words, .. } => {
-            plain!(
-                ola_check_words(words),
-                lent,
-                &lent.machine,
-                as_ptr,
-                &mut answer
-            )
+            call!(ola_check_words(words; machine; addresses, numbers, tape, output; answer), as_ptr)
         }
         Program::Text { text, .. } => {
-            plain!(
-                ola_check_text(text),
-                lent,
-                &lent.machine,
-                as_ptr,
-                &mut answer
-            )
+            call!(ola_check_text(text; machine; addresses, numbers, tape, output; answer), as_ptr)
         }
         Program::BudgetText { text } => {
-            plain!(
-                ola_check_budget_text(text),
-                lent,
-                &lent.machine,
-                as_ptr,
-                &mut answer
-            )
+            call!(ola_check_budget_text(text; machine; addresses, numbers, tape, output; answer), as_ptr)
         }
     }
-    answer
 }
 
 /// The same for a guarded run.
-pub fn check_guarded(program: Program, lent: &Lent) -> Answer {
-    let mut answer = Answer::default();
+pub fn guarded_check<B: AsRef<[u64]>>(
+    program: Program,
+    machine: &Machine,
+    extras: &Marks,
+    buffers: &Buffers<B>,
+    answer: &mut Answer,
+) {
+    let [addresses, numbers, marks, tape, output] = buffers.to_read();
     match program {
         Program::Words { words, .. } => {
-            guarded!(
-                ola_guarded_check_words(words),
-                lent,
-                &lent.machine,
-                as_ptr,
-                &mut answer
-            )
+            call!(ola_guarded_check_words(words; machine, extras; addresses, numbers, marks, tape, output; answer), as_ptr)
         }
         Program::Text { text, .. } => {
-            guarded!(
-                ola_guarded_check_text(text),
-                lent,
-                &lent.machine,
-                as_ptr,
-                &mut answer
-            )
+            call!(ola_guarded_check_text(text; machine, extras; addresses, numbers, marks, tape, output; answer), as_ptr)
         }
         Program::BudgetText { text } => {
-            guarded!(
-                ola_guarded_check_budget_text(text),
-                lent,
-                &lent.machine,
-                as_ptr,
-                &mut answer
-            )
+            call!(ola_guarded_check_budget_text(text; machine, extras; addresses, numbers, marks, tape, output; answer), as_ptr)
         }
     }
-    answer
+}
+
+/// All that a call is lent: the machine, the extras of guarded calls, and the buffers. The default is the start of `solve`, unmarked, in buffers
+/// of the greatest capacities.
+#[derive(Debug, Clone, PartialEq, Eq, Default)]
+pub struct Lent {
+    pub machine: Machine,
+    pub extras: Marks,
+    pub buffers: Buffers,
+}
+
+/// The calls, as the functions of the same names.
+impl Lent {
+    pub fn run(&mut self, program: Program) -> Answer {
+        let mut answer = Answer::default();
+        run(program, &mut self.machine, &mut self.buffers, &mut answer);
+        answer
+    }
+
+    pub fn guarded_run(&mut self, program: Program) -> Answer {
+        let mut answer = Answer::default();
+        guarded_run(
+            program,
+            &mut self.machine,
+            &mut self.extras,
+            &mut self.buffers,
+            &mut answer,
+        );
+        answer
+    }
+
+    pub fn step(&mut self, words: &[u64]) -> Answer {
+        let mut answer = Answer::default();
+        step(words, &mut self.machine, &mut self.buffers, &mut answer);
+        answer
+    }
+
+    pub fn guarded_step(&mut self, words: &[u64]) -> Answer {
+        let mut answer = Answer::default();
+        guarded_step(
+            words,
+            &mut self.machine,
+            &mut self.extras,
+            &mut self.buffers,
+            &mut answer,
+        );
+        answer
+    }
+
+    pub fn check(&self, program: Program) -> Answer {
+        let mut answer = Answer::default();
+        check(program, &self.machine, &self.buffers, &mut answer);
+        answer
+    }
+
+    pub fn guarded_check(&self, program: Program) -> Answer {
+        let mut answer = Answer::default();
+        guarded_check(
+            program,
+            &self.machine,
+            &self.extras,
+            &self.buffers,
+            &mut answer,
+        );
+        answer
+    }
+
+    /// What a program that ended hands back.
+    pub fn used_output(&self) -> &[u64] {
+        let output = &self.buffers.output;
+        let count = output.len().min(self.machine.output_count as usize);
+        &output[..count]
+    }
 }
 
 /// The league's unit: clk / 1000, to the nearest, half to even, for every clk. 499 and 500 give 0, 1500 and 2500 give 2, 2501 gives 3.
