@@ -1,7 +1,7 @@
 //! The step machine from Rust: a solve in one call, step by step, with a pause, refused, and with a secret. Prints what
 //! examples/expected.txt has.
 
-use ola_library::{check, kilosteps, run, run_guarded, step, Answer, Lent, Machine, Program};
+use ola::{check, kilosteps, run, run_guarded, step, Answer, Lent, Machine, Program};
 
 /// Doubles 5, stores it in cell 3, hands it back.
 const DOUBLING: [u64; 9] = [

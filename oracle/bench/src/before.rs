@@ -3,7 +3,7 @@
 use std::ffi::{c_char, c_int, c_void, CStr, CString};
 use std::mem::transmute;
 
-use ola_library::{Answer, Lent, Machine};
+use ola::{Answer, Lent, Machine};
 
 #[link(name = "dl")]
 extern "C" {
@@ -77,6 +77,7 @@ impl Before {
 
     pub fn run_text(&self, text: &[u8], budget: u64, lent: &mut Lent) -> Answer {
         let mut answer = Answer::default();
+        let buffers = &mut lent.buffers;
         // SAFETY: as in the bindings: addresses with their lengths, and nothing lent twice.
         unsafe {
             (self.run_text)(
@@ -84,14 +85,14 @@ impl Before {
                 text.len(),
                 budget,
                 &mut lent.machine,
-                lent.addresses.as_mut_ptr(),
-                lent.addresses.len(),
-                lent.numbers.as_mut_ptr(),
-                lent.numbers.len(),
-                lent.tape.as_mut_ptr(),
-                lent.tape.len(),
-                lent.output.as_mut_ptr(),
-                lent.output.len(),
+                buffers.addresses.as_mut_ptr(),
+                buffers.addresses.len(),
+                buffers.numbers.as_mut_ptr(),
+                buffers.numbers.len(),
+                buffers.tape.as_mut_ptr(),
+                buffers.tape.len(),
+                buffers.output.as_mut_ptr(),
+                buffers.output.len(),
                 &mut answer,
             );
         }
@@ -100,20 +101,21 @@ impl Before {
 
     pub fn check_text(&self, text: &[u8], lent: &Lent) -> Answer {
         let mut answer = Answer::default();
+        let buffers = &lent.buffers;
         // SAFETY: as above.
         unsafe {
             (self.check_text)(
                 text.as_ptr(),
                 text.len(),
                 &lent.machine,
-                lent.addresses.as_ptr(),
-                lent.addresses.len(),
-                lent.numbers.as_ptr(),
-                lent.numbers.len(),
-                lent.tape.as_ptr(),
-                lent.tape.len(),
-                lent.output.as_ptr(),
-                lent.output.len(),
+                buffers.addresses.as_ptr(),
+                buffers.addresses.len(),
+                buffers.numbers.as_ptr(),
+                buffers.numbers.len(),
+                buffers.tape.as_ptr(),
+                buffers.tape.len(),
+                buffers.output.as_ptr(),
+                buffers.output.len(),
                 &mut answer,
             );
         }

@@ -1,6 +1,6 @@
 //! The three that take the same program and buffers: the yardstick, and the library's plain and guarded run.
 
-use ola_library::{run, run_guarded, Answer, Lent, Program};
+use ola::{Answer, Lent, Program};
 
 use crate::timing::{timed, Try};
 use crate::yardstick;
@@ -28,8 +28,8 @@ impl Calls {
         };
         [
             Box::new(|| self.time(|lent| yardstick::run(&self.words, self.budget, lent))),
-            Box::new(move || self.time(|lent| run(program, lent))),
-            Box::new(move || self.time(|lent| run_guarded(program, lent))),
+            Box::new(move || self.time(|lent| lent.run(program))),
+            Box::new(move || self.time(|lent| lent.guarded_run(program))),
         ]
     }
 

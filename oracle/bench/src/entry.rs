@@ -3,7 +3,7 @@
 use oracle::frames::encode;
 use oracle::state::State;
 
-use crate::contenders::{Calls, PLAIN, GUARDED, YARDSTICK};
+use crate::contenders::{Calls, GUARDED, PLAIN, YARDSTICK};
 use crate::lent::lent;
 use crate::programs;
 use crate::timing::{verdict, Rounds};

@@ -12,7 +12,7 @@ use oracle::stepper::{Mode, Stepper};
 use Operand::{Absent, Immediate, Register};
 
 use crate::chart::{Line, Panel, BLUE, GREEN, ORANGE, RED};
-use crate::contenders::{Calls, PLAIN, GUARDED, YARDSTICK};
+use crate::contenders::{Calls, GUARDED, PLAIN, YARDSTICK};
 use crate::entry;
 use crate::lent::lent;
 use crate::programs::{self, jump, DISTANCE, SEED};

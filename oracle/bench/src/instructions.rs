@@ -4,7 +4,7 @@
 use std::env::current_exe;
 use std::process::Command;
 
-use crate::contenders::{PLAIN, GUARDED, YARDSTICK};
+use crate::contenders::{GUARDED, PLAIN, YARDSTICK};
 use crate::programs;
 use crate::steps::calls;
 

@@ -1,9 +1,7 @@
 //! What a call of each function of the C interface costs, by the program's length: one step, in one call and in place, no step, and the
 //! check alone.
 
-use ola_library::{
-    check, check_guarded, run, run_guarded, step, step_guarded, Answer, Lent, Program,
-};
+use ola::{Answer, Lent, Program};
 use oracle::frames::encode;
 use oracle::state::State;
 
@@ -20,24 +18,26 @@ type Function = (&'static str, fn(&[u64], &mut Lent) -> Answer);
 
 const FUNCTIONS: [Function; 8] = [
     ("plain run, budget 1", |words, lent| {
-        run(Program::Words { words, budget: 1 }, lent)
+        lent.run(Program::Words { words, budget: 1 })
     }),
-    ("plain step, in place", step),
+    ("plain step, in place", |words, lent| lent.step(words)),
     ("plain run, budget 0", |words, lent| {
-        run(Program::Words { words, budget: 0 }, lent)
+        lent.run(Program::Words { words, budget: 0 })
     }),
     ("plain check", |words, lent| {
-        check(Program::Words { words, budget: 0 }, lent)
+        lent.check(Program::Words { words, budget: 0 })
     }),
     ("guarded run, budget 1", |words, lent| {
-        run_guarded(Program::Words { words, budget: 1 }, lent)
+        lent.guarded_run(Program::Words { words, budget: 1 })
     }),
-    ("guarded step, in place", step_guarded),
+    ("guarded step, in place", |words, lent| {
+        lent.guarded_step(words)
+    }),
     ("guarded run, budget 0", |words, lent| {
-        run_guarded(Program::Words { words, budget: 0 }, lent)
+        lent.guarded_run(Program::Words { words, budget: 0 })
     }),
     ("guarded check", |words, lent| {
-        check_guarded(Program::Words { words, budget: 0 }, lent)
+        lent.guarded_check(Program::Words { words, budget: 0 })
     }),
 ];
 

@@ -1,6 +1,6 @@
 //! Buffers of the greatest length, holding a start.
 
-use ola_library::{Lent, Machine};
+use ola::{Buffers, Lent, Machine, Marks};
 use oracle::domain::{MOST_CELLS, MOST_OUTPUT, MOST_TAPE};
 use oracle::state::State;
 
@@ -16,12 +16,14 @@ pub fn lent(start: &State) -> Lent {
             tape_count: start.tape.len() as u64,
             output_count: start.output.len() as u64,
         },
-        register_marks: 0,
-        addresses: padded(start.cells.keys(), MOST_CELLS),
-        numbers: padded(start.cells.values(), MOST_CELLS),
-        marks: vec![0; MOST_CELLS],
-        tape: padded(&start.tape, MOST_TAPE as usize),
-        output: padded(&start.output, MOST_OUTPUT),
+        extras: Marks::default(),
+        buffers: Buffers {
+            addresses: padded(start.cells.keys(), MOST_CELLS),
+            numbers: padded(start.cells.values(), MOST_CELLS),
+            marks: vec![0; MOST_CELLS],
+            tape: padded(&start.tape, MOST_TAPE as usize),
+            output: padded(&start.output, MOST_OUTPUT),
+        },
     }
 }
 

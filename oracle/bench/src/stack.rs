@@ -3,7 +3,7 @@
 use std::hint::black_box;
 use std::thread;
 
-use ola_library::{run, run_guarded, Lent, Program};
+use ola::{Lent, Program};
 use oracle::frames::encode;
 use oracle::state::State;
 
@@ -33,15 +33,15 @@ pub fn table() -> String {
     };
     let mut table = String::from("| call | stack, bytes |\n|---|---|\n");
     for (name, used) in [
-        ("plain, bare words", of_call(|lent| run(words, lent).steps)),
-        ("plain, text", of_call(|lent| run(text, lent).steps)),
+        ("plain, bare words", of_call(|lent| lent.run(words).steps)),
+        ("plain, text", of_call(|lent| lent.run(text).steps)),
         (
             "guarded run, bare words",
-            of_call(|lent| run_guarded(words, lent).steps),
+            of_call(|lent| lent.guarded_run(words).steps),
         ),
         (
             "guarded run, text",
-            of_call(|lent| run_guarded(text, lent).steps),
+            of_call(|lent| lent.guarded_run(text).steps),
         ),
     ] {
         table += &format!("| {name} | {used} |\n");

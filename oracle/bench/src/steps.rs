@@ -78,9 +78,9 @@ pub fn calls(workload: &Workload, steps: u64) -> [Calls; 2] {
         count: 1,
     };
     let mut with_marks = without_marks.clone();
-    with_marks.start.register_marks = workload.marked_registers;
+    with_marks.start.extras.registers = workload.marked_registers;
     if workload.marked_cells {
-        with_marks.start.marks[..workload.start.cells.len()].fill(1);
+        with_marks.start.buffers.marks[..workload.start.cells.len()].fill(1);
     }
     [without_marks, with_marks]
 }

@@ -1,8 +1,8 @@
 //! What a program costs as text: 512 frames of each length, checked, and run with budget 1. Programs take turns, so that no digit is
 //! foreseen from the call before.
 
+use ola::{Answer, Lent, Program};
 use ola_core::vm::opcodes::OlaOpcode::{ADD, RC, TLOAD};
-use ola_library::{check, run, Answer, Lent, Program};
 use oracle::case::frame;
 use oracle::frames::{encode, Frame, Operand, MOST_FRAMES};
 use oracle::splitmix::SplitMix64;
@@ -128,17 +128,17 @@ fn measure(row: &Row, before: Option<&Before>) -> Rounds {
         .collect();
     let words = |Forms { words, .. }: &Forms, lent: &mut Lent| {
         let program = Program::Words { words, budget: 1 };
-        run(program, lent)
+        lent.run(program)
     };
     let text = |Forms { text, .. }: &Forms, lent: &mut Lent| {
         let program = Program::Text { text, budget: 1 };
-        run(program, lent)
+        lent.run(program)
     };
     let yardstick =
         |Forms { text, .. }: &Forms, lent: &mut Lent| yardstick::run_text(text, 1, lent);
     let checked = |Forms { text, .. }: &Forms, lent: &mut Lent| {
         let program = Program::Text { text, budget: 1 };
-        check(program, lent)
+        lent.check(program)
     };
     let checked_by_yardstick =
         |Forms { text, .. }: &Forms, lent: &mut Lent| yardstick::check_text(text, lent);

@@ -1,7 +1,7 @@
 //! What a comparison of steps came to, and whether it came to everything.
 
+use ola::Answer;
 use ola_core::vm::opcodes::OlaOpcode;
-use ola_library::Answer;
 use oracle::domain::NotCompared;
 use oracle::first_list::operand_kinds::compared_opcodes;
 use oracle::frames::{Frame, OPCODES};

@@ -1,6 +1,6 @@
 //! Damages to what a call is handed: to a state, to words, to a text. Some go only to a limit and not past it.
 
-use ola_library::Lent;
+use ola::Lent;
 use oracle::domain::{HEAP_END, P};
 use oracle::splitmix::SplitMix64;
 
@@ -9,37 +9,48 @@ use crate::model::CLOCK_LIMIT;
 
 /// Damages the part of a state that both runs look at.
 pub fn plain_state(random: &mut SplitMix64, lent: &mut Lent) {
-    let used = (lent.machine.cell_count as usize).min(lent.addresses.len());
+    let Lent {
+        machine, buffers, ..
+    } = lent;
+    let used = (machine.cell_count as usize).min(buffers.addresses.len());
     match random.below(14) {
-        0 => lent.machine.clk = random.pick(&[CLOCK_LIMIT - 1, CLOCK_LIMIT, u64::MAX]),
-        1 => lent.machine.cell_count = bad_count(random, &lent.addresses),
-        2 => lent.machine.tape_count = bad_count(random, &lent.tape),
-        3 => lent.machine.output_count = bad_count(random, &lent.output),
-        4 => resize(random, &mut lent.addresses),
-        5 => resize(random, &mut lent.numbers),
+        0 => machine.clk = random.pick(&[CLOCK_LIMIT - 1, CLOCK_LIMIT, u64::MAX]),
+        1 => machine.cell_count = bad_count(random, &buffers.addresses),
+        2 => machine.tape_count = bad_count(random, &buffers.tape),
+        3 => machine.output_count = bad_count(random, &buffers.output),
+        4 => resize(random, &mut buffers.addresses),
+        5 => resize(random, &mut buffers.numbers),
         6 => {
-            let length = around(random, GREATEST.cells);
-            for cells in [&mut lent.addresses, &mut lent.numbers, &mut lent.marks] {
-                cells.resize(length, 0);
+            let capacity = around(random, GREATEST.cells);
+            for buffer in [
+                &mut buffers.addresses,
+                &mut buffers.numbers,
+                &mut buffers.marks,
+            ] {
+                buffer.resize(capacity, 0);
             }
         }
-        7 => lent.tape.resize(around(random, GREATEST.tape), 0),
-        8 => lent.output.resize(around(random, GREATEST.output), 0),
+        7 => buffers.tape.resize(around(random, GREATEST.tape), 0),
+        8 => buffers.output.resize(around(random, GREATEST.output), 0),
         9 if used > 1 => {
             let place = random.below(used as u64 - 1) as usize;
-            lent.addresses[place] = lent.addresses[place + 1];
+            buffers.addresses[place] = buffers.addresses[place + 1];
         }
         10 if used > 1 => {
             let place = random.below(used as u64 - 1) as usize;
-            lent.addresses.swap(place, place + 1);
+            buffers.addresses.swap(place, place + 1);
         }
         11 if used > 0 => {
-            lent.addresses[used - 1] = random.pick(&[HEAP_END - 1, HEAP_END, P, u64::MAX]);
+            buffers.addresses[used - 1] = random.pick(&[HEAP_END - 1, HEAP_END, P, u64::MAX]);
         }
-        12 => set_one(random, &mut lent.numbers, &[P, P + 1, u64::MAX]),
+        12 => set_one(random, &mut buffers.numbers, &[P, P + 1, u64::MAX]),
         // Beyond the counts anything may stand.
         _ => {
-            for buffer in [&mut lent.addresses, &mut lent.numbers, &mut lent.marks] {
+            for buffer in [
+                &mut buffers.addresses,
+                &mut buffers.numbers,
+                &mut buffers.marks,
+            ] {
                 let start = used.min(buffer.len());
                 buffer[start..].fill(random.draw());
             }
@@ -49,19 +60,24 @@ pub fn plain_state(random: &mut SplitMix64, lent: &mut Lent) {
 
 /// Damages marks, which the plain run does not look at, or marked numbers.
 pub fn marks(random: &mut SplitMix64, lent: &mut Lent) {
+    let Lent {
+        machine,
+        extras,
+        buffers,
+    } = lent;
     match random.below(5) {
-        0 => resize(random, &mut lent.marks),
-        1 => set_one(random, &mut lent.marks, &[1, 2, u64::MAX]),
-        2 => lent.register_marks |= 1 << random.below(64),
+        0 => resize(random, &mut buffers.marks),
+        1 => set_one(random, &mut buffers.marks, &[1, 2, u64::MAX]),
+        2 => extras.registers |= 1 << random.below(64),
         3 => {
             let register = random.below(10) as usize;
-            lent.register_marks |= 1 << register;
-            lent.machine.registers[register] = random.pick(&[P - 1, P, P + 1, u64::MAX]);
+            extras.registers |= 1 << register;
+            machine.registers[register] = random.pick(&[P - 1, P, P + 1, u64::MAX]);
         }
         _ => {
-            let place = random.below(lent.numbers.len().max(1) as u64) as usize;
+            let place = random.below(buffers.numbers.len().max(1) as u64) as usize;
             if let (Some(mark), Some(number)) =
-                (lent.marks.get_mut(place), lent.numbers.get_mut(place))
+                (buffers.marks.get_mut(place), buffers.numbers.get_mut(place))
             {
                 *mark = 1;
                 *number = random.pick(&[P - 1, P]);

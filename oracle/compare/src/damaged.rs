@@ -1,7 +1,7 @@
 //! Calls with damaged states, words and texts, in fenced buffers: what they answer and leave is what the model of the entry says, and the
 //! check alone says what the call is refused with.
 
-use ola_library::{check, check_guarded, Answer, Lent, Program};
+use ola::{Answer, Lent, Program};
 use oracle::frames::Frame;
 
 use crate::damage;
@@ -130,8 +130,8 @@ fn predicted_call(
     let predicted = predict(program, start, run);
     predicted.holds(&answer, &fenced.lent())?;
     let checked = match run {
-        Run::Plain => check(program, start),
-        Run::Guarded => check_guarded(program, start),
+        Run::Plain => start.check(program),
+        Run::Guarded => start.guarded_check(program),
     };
     let expected = match predicted.refusal {
         Some(_) => answer,

@@ -3,7 +3,7 @@
 use std::iter::once;
 use std::ops::Range;
 
-use ola_library::{run_slices, run_guarded_slices, Answer, Lent, Machine, Program, Slices};
+use ola::{guarded_run, run, Answer, Buffers, Lent, Machine, Marks, Program};
 
 use crate::entry::Run;
 
@@ -23,8 +23,8 @@ struct Records {
     before: [u64; WIDTH],
     machine: Machine,
     after_machine: [u64; WIDTH],
-    register_marks: u64,
-    after_marks: [u64; WIDTH],
+    extras: Marks,
+    after_extras: [u64; WIDTH],
     answer: Answer,
     after_answer: [u64; WIDTH],
 }
@@ -32,11 +32,11 @@ struct Records {
 impl Fenced {
     pub fn new(lent: &Lent) -> Fenced {
         let buffers = [
-            &lent.addresses,
-            &lent.numbers,
-            &lent.marks,
-            &lent.tape,
-            &lent.output,
+            &lent.buffers.addresses,
+            &lent.buffers.numbers,
+            &lent.buffers.marks,
+            &lent.buffers.tape,
+            &lent.buffers.output,
         ];
         let mut memory = vec![FENCE; WIDTH];
         let ranges = buffers.map(|buffer| {
@@ -53,35 +53,38 @@ impl Fenced {
                 before: fence,
                 machine: lent.machine,
                 after_machine: fence,
-                register_marks: lent.register_marks,
-                after_marks: fence,
+                extras: lent.extras,
+                after_extras: fence,
                 answer: Answer::default(),
                 after_answer: fence,
             },
         }
     }
 
-    pub fn call(&mut self, program: Program, run: Run) -> Answer {
+    pub fn call(&mut self, program: Program, kind: Run) -> Answer {
         let base = self.memory.as_mut_ptr();
         let [addresses, numbers, marks, tape, output] = self.ranges.clone().map(|range| {
             // SAFETY: the ranges are inside `memory` and do not overlap.
             unsafe { std::slice::from_raw_parts_mut(base.add(range.start), range.len()) }
         });
-        let records = &mut self.records;
-        let lent = Slices {
-            machine: &mut records.machine,
-            register_marks: &mut records.register_marks,
+        let mut buffers = Buffers {
             addresses,
             numbers,
             marks,
             tape,
             output,
         };
-        match run {
-            Run::Plain => run_slices(program, lent, &mut records.answer),
-            Run::Guarded => run_guarded_slices(program, lent, &mut records.answer),
+        let Records {
+            machine,
+            extras,
+            answer,
+            ..
+        } = &mut self.records;
+        match kind {
+            Run::Plain => run(program, machine, &mut buffers, answer),
+            Run::Guarded => guarded_run(program, machine, extras, &mut buffers, answer),
         }
-        records.answer
+        *answer
     }
 
     /// What the buffers hold now.
@@ -90,12 +93,14 @@ impl Fenced {
             self.ranges.clone().map(|range| self.memory[range].to_vec());
         Lent {
             machine: self.records.machine,
-            register_marks: self.records.register_marks,
-            addresses,
-            numbers,
-            marks,
-            tape,
-            output,
+            extras: self.records.extras,
+            buffers: Buffers {
+                addresses,
+                numbers,
+                marks,
+                tape,
+                output,
+            },
         }
     }
 
@@ -108,7 +113,7 @@ impl Fenced {
         fences.all(|(start, end)| stands(&self.memory[start..end]))
             && stands(&records.before)
             && stands(&records.after_machine)
-            && stands(&records.after_marks)
+            && stands(&records.after_extras)
             && stands(&records.after_answer)
     }
 }

@@ -1,7 +1,7 @@
 //! The library's guarded run: pairs of starts that differ in marked numbers alone, the plain run beside it, and the model, which says where
 //! refusal 18 comes.
 
-use ola_library::{run, run_guarded, Answer, Lent, Machine, Program};
+use ola::{Answer, Buffers, Lent, Machine, Program};
 use oracle::frames::encode;
 use oracle::splitmix::SplitMix64;
 
@@ -81,8 +81,9 @@ fn compare_pair(
     alike(&left, &twin_left).map_err(|what| format!("pair after {answer:x?}: {what}"))?;
     beside_plain(program, start, &answer, &left)?;
     let cells = start.machine.cell_count as usize;
+    let (numbers, twin_numbers) = (&start.buffers.numbers, &twin.buffers.numbers);
     let is_different = start.machine != twin.machine
-        || same_used("numbers", cells, &start.numbers, &twin.numbers).is_err();
+        || same_used("numbers", cells, numbers, twin_numbers).is_err();
     counts.count(&answer, predicted.sink, is_different);
     Ok(())
 }
@@ -91,7 +92,7 @@ fn compare_pair(
 fn guarded(program: Program, start: &Lent) -> Result<(Answer, Lent, Prediction), String> {
     let predicted = predict(program, start, Run::Guarded);
     let mut left = start.clone();
-    let answer = run_guarded(program, &mut left);
+    let answer = left.guarded_run(program);
     predicted.holds(&answer, &left)?;
     Ok((answer, left, predicted))
 }
@@ -101,24 +102,21 @@ fn alike(one: &Lent, other: &Lent) -> Result<(), String> {
     let (a, b) = (&one.machine, &other.machine);
     let mut registers = a.registers.iter().zip(&b.registers).enumerate();
     let same_registers =
-        registers.all(|(register, (a, b))| one.register_marks >> register & 1 == 1 || a == b);
+        registers.all(|(register, (a, b))| one.extras.registers >> register & 1 == 1 || a == b);
     let same_rest = Machine {
         registers: a.registers,
         ..*b
     } == *a;
-    if !same_registers || !same_rest || one.register_marks != other.register_marks {
+    if !same_registers || !same_rest || one.extras != other.extras {
         return Err(format!("machines {a:x?} and {b:x?}"));
     }
     let cells = a.cell_count as usize;
+    let (tape, output) = (a.tape_count as usize, a.output_count as usize);
+    let (one, other) = (&one.buffers, &other.buffers);
     same_used("addresses", cells, &one.addresses, &other.addresses)?;
     same_used("marks", cells, &one.marks, &other.marks)?;
-    same_used("tape", a.tape_count as usize, &one.tape, &other.tape)?;
-    same_used(
-        "output",
-        a.output_count as usize,
-        &one.output,
-        &other.output,
-    )?;
+    same_used("tape", tape, &one.tape, &other.tape)?;
+    same_used("output", output, &one.output, &other.output)?;
     let numbers = one.numbers.iter().zip(&other.numbers).take(cells);
     for (place, (a, b)) in numbers.enumerate() {
         let is_marked = one.marks.get(place) == Some(&1);
@@ -167,15 +165,18 @@ fn beside_plain(
         budget: plain_budget,
     };
     let mut plain = start.clone();
-    let plain_answer = run(program, &mut plain);
+    let plain_answer = plain.run(program);
     if plain_answer != expected {
         return Err(format!("guarded {answer:x?}, plain {plain_answer:x?}"));
     }
     // The plain run has no marks.
     let expected = Lent {
-        register_marks: start.register_marks,
-        marks: start.marks.clone(),
-        ..left.clone()
+        extras: start.extras,
+        buffers: Buffers {
+            marks: start.buffers.marks.clone(),
+            ..left.buffers.clone()
+        },
+        ..*left
     };
     match difference(&expected, &plain) {
         None => Ok(()),

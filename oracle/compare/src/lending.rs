@@ -1,6 +1,6 @@
 //! What is lent to the library: made from a state, made into a model, and what must be left in it.
 
-use ola_library::{Lent, Machine};
+use ola::{Buffers, Lent, Machine, Marks};
 use oracle::domain::{MOST_CELLS, MOST_OUTPUT, MOST_TAPE};
 use oracle::state::State;
 
@@ -18,31 +18,33 @@ pub const GREATEST: Capacity = Capacity {
 
 /// A state without marks, in buffers that it fits in.
 pub fn lend(state: &State, capacity: Capacity) -> Lent {
-    let mut lent = Lent {
-        machine: machine_of(state),
-        register_marks: 0,
+    let mut buffers = Buffers {
         addresses: vec![UNUSED; capacity.cells],
         numbers: vec![UNUSED; capacity.cells],
         marks: vec![UNUSED; capacity.cells],
         tape: vec![UNUSED; capacity.tape],
         output: vec![UNUSED; capacity.output],
     };
-    put(&mut lent.addresses, state.cells.keys());
-    put(&mut lent.numbers, state.cells.values());
-    lent.marks[..state.cells.len()].fill(0);
-    put(&mut lent.tape, &state.tape);
-    put(&mut lent.output, &state.output);
-    lent
+    put(&mut buffers.addresses, state.cells.keys());
+    put(&mut buffers.numbers, state.cells.values());
+    buffers.marks[..state.cells.len()].fill(0);
+    put(&mut buffers.tape, &state.tape);
+    put(&mut buffers.output, &state.output);
+    Lent {
+        machine: machine_of(state),
+        extras: Marks::default(),
+        buffers,
+    }
 }
 
 /// The model of a guarded start that the entry accepts.
 pub fn guarded_model(lent: &Lent) -> Model {
     let mut model = plain_model(lent);
     let count = lent.machine.cell_count as usize;
-    model.register_marks = lent.register_marks;
-    model.marked_cells = lent.addresses[..count]
+    model.marked_registers = lent.extras.registers;
+    model.marked_cells = lent.buffers.addresses[..count]
         .iter()
-        .zip(&lent.marks)
+        .zip(&lent.buffers.marks)
         .filter(|(_, mark)| **mark == 1)
         .map(|(address, _)| *address)
         .collect();
@@ -51,45 +53,48 @@ pub fn guarded_model(lent: &Lent) -> Model {
 
 /// The model of a plain start that the entry accepts.
 pub fn plain_model(lent: &Lent) -> Model {
-    let machine = &lent.machine;
+    let (machine, buffers) = (&lent.machine, &lent.buffers);
     let count = machine.cell_count as usize;
-    let addresses = lent.addresses[..count].iter().copied();
+    let addresses = buffers.addresses[..count].iter().copied();
     let state = State {
         registers: machine.registers,
         pc: machine.pc,
         clk: machine.clk,
         psp_start: machine.psp,
         storage_address: machine.storage_addr,
-        cells: addresses.zip(lent.numbers.iter().copied()).collect(),
-        tape: lent.tape[..machine.tape_count as usize].to_vec(),
-        output: lent.output[..machine.output_count as usize].to_vec(),
+        cells: addresses.zip(buffers.numbers.iter().copied()).collect(),
+        tape: buffers.tape[..machine.tape_count as usize].to_vec(),
+        output: buffers.output[..machine.output_count as usize].to_vec(),
     };
     let capacity = Capacity {
-        cells: lent.addresses.len(),
-        tape: lent.tape.len(),
-        output: lent.output.len(),
+        cells: buffers.addresses.len(),
+        tape: buffers.tape.len(),
+        output: buffers.output.len(),
     };
     Model::plain(state, capacity)
 }
 
 /// What the plain run of `model` leaves in the buffers of `start`, used and unused elements alike.
 pub fn left_plain(start: &Lent, model: &Model) -> Lent {
-    let mut lent = start.clone();
-    lent.machine = machine_of(&model.state);
-    put(&mut lent.addresses, model.state.cells.keys());
-    put(&mut lent.numbers, model.state.cells.values());
-    put(&mut lent.tape, &model.state.tape);
+    let mut buffers = start.buffers.clone();
+    put(&mut buffers.addresses, model.state.cells.keys());
+    put(&mut buffers.numbers, model.state.cells.values());
+    put(&mut buffers.tape, &model.state.tape);
     // An output that was emptied is not cleared.
-    put(&mut lent.output, &model.emptied_output);
-    put(&mut lent.output, &model.state.output);
-    lent
+    put(&mut buffers.output, &model.emptied_output);
+    put(&mut buffers.output, &model.state.output);
+    Lent {
+        machine: machine_of(&model.state),
+        extras: start.extras,
+        buffers,
+    }
 }
 
 /// The same for a guarded run.
 pub fn left_guarded(start: &Lent, model: &Model) -> Lent {
     let mut lent = left_plain(start, model);
-    lent.register_marks = model.register_marks;
-    for (mark, address) in lent.marks.iter_mut().zip(model.state.cells.keys()) {
+    lent.extras.registers = model.marked_registers;
+    for (mark, address) in lent.buffers.marks.iter_mut().zip(model.state.cells.keys()) {
         *mark = model.marked_cells.contains(address) as u64;
     }
     lent
@@ -106,12 +111,13 @@ pub fn difference(expected: &Lent, given: &Lent) -> Option<String> {
             expected.machine, given.machine
         ));
     }
-    if expected.register_marks != given.register_marks {
+    if expected.extras != given.extras {
         return Some(format!(
-            "register marks: expected {:x}, given {:x}",
-            expected.register_marks, given.register_marks
+            "extras: expected {:x?}, given {:x?}",
+            expected.extras, given.extras
         ));
     }
+    let (expected, given) = (&expected.buffers, &given.buffers);
     [
         ("addresses", &expected.addresses, &given.addresses),
         ("numbers", &expected.numbers, &given.numbers),

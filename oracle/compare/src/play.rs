@@ -6,7 +6,7 @@ mod transcript;
 
 use std::io::{Read, Write};
 
-use ola_library::{run, run_guarded, step, step_guarded, Answer, Lent, Program};
+use ola::{Answer, Lent, Program};
 
 use crate::entry::Run;
 use crate::predict::predict;
@@ -24,14 +24,12 @@ impl Machine {
     fn call(self, program: Program, lent: &mut Lent, kind: Run) -> Answer {
         match (self, kind, program) {
             // Single steps go through the functions for one step.
-            (Machine::Library, Run::Plain, Program::Words { words, budget: 1 }) => {
-                step(words, lent)
-            }
+            (Machine::Library, Run::Plain, Program::Words { words, budget: 1 }) => lent.step(words),
             (Machine::Library, Run::Guarded, Program::Words { words, budget: 1 }) => {
-                step_guarded(words, lent)
+                lent.guarded_step(words)
             }
-            (Machine::Library, Run::Plain, _) => run(program, lent),
-            (Machine::Library, Run::Guarded, _) => run_guarded(program, lent),
+            (Machine::Library, Run::Plain, _) => lent.run(program),
+            (Machine::Library, Run::Guarded, _) => lent.guarded_run(program),
             (Machine::Model, ..) => {
                 let prediction = predict(program, lent, kind);
                 *lent = prediction.left;
@@ -42,7 +40,7 @@ impl Machine {
 
     fn kilosteps(self, clk: u64) -> u64 {
         match self {
-            Machine::Library => ola_library::kilosteps(clk),
+            Machine::Library => ola::kilosteps(clk),
             Machine::Model => oracle::kilosteps::kilosteps(clk),
         }
     }

@@ -1,9 +1,9 @@
 //! What a call must answer and leave, by the models of the entry and of the run.
 
-use ola_library::{Answer, Lent, Program};
+use ola::{Answer, Lent, Program};
 
 use crate::entry::{enter, Refusal, Run};
-use crate::lending::{difference, left_plain, left_guarded, plain_model, guarded_model};
+use crate::lending::{difference, guarded_model, left_guarded, left_plain, plain_model};
 use crate::model::{Code, Sink};
 
 pub struct Prediction {

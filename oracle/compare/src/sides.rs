@@ -1,7 +1,7 @@
 //! `resume`, the library and the model, each with its own state, stepped side by side.
 
+use ola::{Answer, Lent, Program};
 use ola_core::vm::hardware::access::cell_count;
-use ola_library::{Answer, Lent, Program};
 use oracle::case::Case;
 use oracle::domain::why_not_compared;
 use oracle::frames::encode;
@@ -79,7 +79,7 @@ impl Sides {
         let clk = self.model.state.clk;
         let source = self.source.step();
         let words = &self.words;
-        let library = ola_library::run(Program::Words { words, budget: 1 }, &mut self.library);
+        let library = self.library.run(Program::Words { words, budget: 1 });
         let stepped = self.model.step(&self.code);
         let model = answer_of(stepped, self.model.state.clk - clk);
 
@@ -119,7 +119,7 @@ impl Sides {
             same(
                 "tape",
                 source.tape_value(position),
-                self.library.tape[position as usize],
+                self.library.buffers.tape[position as usize],
             )?;
         }
         if source.output() != self.output() {
@@ -141,8 +141,9 @@ impl Sides {
         let memory = self.source.memory();
         let count = self.library.machine.cell_count;
         same("cell count", cell_count(memory) as u64, count)?;
-        let addresses = &self.library.addresses[..count as usize];
-        for (address, number) in addresses.iter().zip(&self.library.numbers) {
+        let buffers = &self.library.buffers;
+        let addresses = &buffers.addresses[..count as usize];
+        for (address, number) in addresses.iter().zip(&buffers.numbers) {
             let source = memory.read(*address).ok();
             if source != Some(*number) {
                 return Err(format!(
@@ -155,12 +156,13 @@ impl Sides {
 
     fn same_as_model(&self) -> Result<(), String> {
         let (state, library) = (&self.model.state, &self.library);
+        let buffers = &library.buffers;
         let count = library.machine.cell_count as usize;
         let is_same = library.machine == machine_of(state)
-            && library.addresses[..count].iter().eq(state.cells.keys())
-            && library.numbers[..count].iter().eq(state.cells.values())
-            && library.tape[..state.tape.len()] == state.tape
-            && library.output[..state.output.len()] == state.output;
+            && buffers.addresses[..count].iter().eq(state.cells.keys())
+            && buffers.numbers[..count].iter().eq(state.cells.values())
+            && buffers.tape[..state.tape.len()] == state.tape
+            && buffers.output[..state.output.len()] == state.output;
         if is_same {
             Ok(())
         } else {
@@ -177,10 +179,7 @@ impl Sides {
         let mut lent = start.clone();
         let words = &self.words;
         let library = run_through(case.start.clk, walked.budget, |budget| {
-            Ok(ola_library::run(
-                Program::Words { words, budget },
-                &mut lent,
-            ))
+            Ok(lent.run(Program::Words { words, budget }))
         })?;
         let mut stepper = Stepper::new(&case.program, &case.start, Mode::Plain);
         let source = run_through(case.start.clk, walked.budget, |budget| {
@@ -206,14 +205,14 @@ impl Sides {
         if stepper.state() != source_end {
             return Err("resume at once leaves another state than step by step".to_string());
         }
-        if source_end.tape != self.library.tape[..source_end.tape.len()] {
+        if source_end.tape != self.library.buffers.tape[..source_end.tape.len()] {
             return Err(format!("the whole tape: resume {:x?}", source_end.tape));
         }
         Ok(())
     }
 
     fn output(&self) -> &[u64] {
-        &self.library.output[..self.library.machine.output_count as usize]
+        &self.library.buffers.output[..self.library.machine.output_count as usize]
     }
 }
 

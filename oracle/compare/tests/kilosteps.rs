@@ -1,6 +1,6 @@
 //! The library's kilosteps, through C, beside the model's, for words of every size.
 
-use ola_library::kilosteps;
+use ola::kilosteps;
 use oracle::kilosteps::kilosteps as model;
 use oracle::splitmix::SplitMix64;
 

@@ -2,8 +2,8 @@
 
 use std::collections::BTreeSet;
 
+use ola::{Answer, Lent, Program};
 use ola_core::vm::opcodes::OlaOpcode;
-use ola_library::{Answer, Lent, Program};
 use oracle::case::Case;
 use oracle::domain::{HEAP_END, P, STACK_END};
 use oracle::first_list;
@@ -41,7 +41,7 @@ const EDGES: [u64; 16] = [
 fn assert_alike(name: &str, words: &[u64], budget: u64, start: &Lent) -> Answer {
     let mut by_library = start.clone();
     let mut by_yardstick = start.clone();
-    let wanted = ola_library::run(Program::Words { words, budget }, &mut by_library);
+    let wanted = by_library.run(Program::Words { words, budget });
     let answer = super::run(words, budget, &mut by_yardstick);
     assert_eq!(answer, wanted, "{name}");
     assert_eq!(by_yardstick, by_library, "{name}");
@@ -110,14 +110,10 @@ fn on_random_texts() {
             budget,
         };
         let checked = super::check_text(&text, &start);
-        assert_eq!(
-            checked,
-            ola_library::check(program, &start),
-            "text {number}"
-        );
+        assert_eq!(checked, start.check(program), "text {number}");
         let mut by_library = start.clone();
         let mut by_yardstick = start;
-        let wanted = ola_library::run(program, &mut by_library);
+        let wanted = by_library.run(program);
         let answer = super::run_text(&text, budget, &mut by_yardstick);
         assert_eq!(answer, wanted, "text {number}");
         assert_eq!(by_yardstick, by_library, "text {number}");
@@ -191,23 +187,24 @@ fn random_start(random: &mut SplitMix64) -> Lent {
         start.machine.clk = 1_000_000_000_000 - random.below(8);
     }
 
+    let buffers = &mut start.buffers;
     let cells = 8 + random.below(24) as usize;
     let count = random.below(cells as u64 + 1) as usize;
     let gaps = random.pick(&[1, 1, 2, 1 << 40]);
     let mut address = random.pick(&[0, 0, 0, 3, STACK_END - 4, HEAP_END - 12]);
     for place in 0..cells {
-        start.addresses[place] = address;
-        start.numbers[place] = number(random).min(P);
+        buffers.addresses[place] = address;
+        buffers.numbers[place] = number(random).min(P);
         address = address.wrapping_add(1 + random.below(gaps));
     }
     if count > 0 && random.percent(1) {
-        start.numbers[count - 1] = P + random.below(2);
+        buffers.numbers[count - 1] = P + random.below(2);
     }
-    start.addresses.truncate(cells);
-    start.numbers.truncate(cells);
-    start.tape.truncate(24);
-    start.output.truncate(12);
-    for value in start.tape.iter_mut().chain(&mut start.output) {
+    buffers.addresses.truncate(cells);
+    buffers.numbers.truncate(cells);
+    buffers.tape.truncate(24);
+    buffers.output.truncate(12);
+    for value in buffers.tape.iter_mut().chain(&mut buffers.output) {
         *value = number(random);
     }
     start.machine.cell_count = count as u64;

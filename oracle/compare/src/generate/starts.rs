@@ -1,6 +1,6 @@
 //! States as they are lent: in buffers of some length, with marks, and pairs that differ in marked numbers alone.
 
-use ola_library::Lent;
+use ola::Lent;
 use oracle::domain::P;
 use oracle::first_list::values;
 use oracle::splitmix::SplitMix64;
@@ -25,15 +25,20 @@ pub fn lent_start(random: &mut SplitMix64, state: &State) -> Lent {
 
 /// Some registers and cells become marked; a marked number is below p.
 pub fn mark(random: &mut SplitMix64, lent: &mut Lent) {
+    let Lent {
+        machine,
+        extras,
+        buffers,
+    } = lent;
     let chance = random.pick(&[2, 5, 15, 40]);
-    for (register, number) in lent.machine.registers.iter_mut().enumerate() {
+    for (register, number) in machine.registers.iter_mut().enumerate() {
         if random.percent(chance) {
-            lent.register_marks |= 1 << register;
+            extras.registers |= 1 << register;
             *number %= P;
         }
     }
-    let cells = lent.marks.iter_mut().zip(&mut lent.numbers);
-    for (mark, number) in cells.take(lent.machine.cell_count as usize) {
+    let cells = buffers.marks.iter_mut().zip(&mut buffers.numbers);
+    for (mark, number) in cells.take(machine.cell_count as usize) {
         if random.percent(chance) {
             *mark = 1;
             *number %= P;
@@ -44,24 +49,28 @@ pub fn mark(random: &mut SplitMix64, lent: &mut Lent) {
 /// A start alike: other marked numbers, and anything beyond the counts.
 pub fn twin(random: &mut SplitMix64, lent: &Lent) -> Lent {
     let mut twin = lent.clone();
-    for (register, number) in twin.machine.registers.iter_mut().enumerate() {
-        if twin.register_marks >> register & 1 == 1 {
+    let Lent {
+        machine,
+        extras,
+        buffers,
+    } = &mut twin;
+    for (register, number) in machine.registers.iter_mut().enumerate() {
+        if extras.registers >> register & 1 == 1 {
             *number = values::any(random) % P;
         }
     }
-    let machine = &twin.machine;
     let cells = machine.cell_count as usize;
-    for (mark, number) in twin.marks.iter().zip(&mut twin.numbers).take(cells) {
+    for (mark, number) in buffers.marks.iter().zip(&mut buffers.numbers).take(cells) {
         if *mark == 1 {
             *number = values::any(random) % P;
         }
     }
     for (buffer, count) in [
-        (&mut twin.addresses, cells),
-        (&mut twin.numbers, cells),
-        (&mut twin.marks, cells),
-        (&mut twin.tape, machine.tape_count as usize),
-        (&mut twin.output, machine.output_count as usize),
+        (&mut buffers.addresses, cells),
+        (&mut buffers.numbers, cells),
+        (&mut buffers.marks, cells),
+        (&mut buffers.tape, machine.tape_count as usize),
+        (&mut buffers.output, machine.output_count as usize),
     ] {
         let used = count.min(buffer.len());
         buffer[used..].fill(random.draw());

@@ -1,6 +1,6 @@
 //! A case, as its lines give it.
 
-use ola_library::{Lent, Machine, Program};
+use ola::{Buffers, Lent, Machine, Marks, Program};
 use oracle::domain::{MOST_CELLS, MOST_OUTPUT, MOST_TAPE};
 use oracle::state::State;
 
@@ -13,10 +13,10 @@ pub struct Case {
     words: Option<Vec<u64>>,
     text: Vec<u8>,
     machine: Machine,
-    register_marks: u64,
+    extras: Marks,
     /// The first places of addresses, numbers, marks, tape and output.
     given: [Vec<u64>; 5],
-    lengths: [usize; 5],
+    capacities: [usize; 5],
 }
 
 impl Default for Case {
@@ -25,9 +25,9 @@ impl Default for Case {
             words: None,
             text: vec![],
             machine: machine_of(&State::default()),
-            register_marks: 0,
+            extras: Marks::default(),
             given: Default::default(),
-            lengths: [
+            capacities: [
                 MOST_CELLS,
                 MOST_CELLS,
                 MOST_CELLS,
@@ -61,7 +61,7 @@ impl Case {
                 let places = machine
                     .registers
                     .iter_mut()
-                    .chain([&mut self.register_marks]);
+                    .chain([&mut self.extras.registers]);
                 put(numbers, places);
             }
             b's' => {
@@ -77,7 +77,7 @@ impl Case {
                 put(numbers, counts);
             }
             b'b' => {
-                for (length, number) in self.lengths.iter_mut().zip(numbers) {
+                for (length, number) in self.capacities.iter_mut().zip(numbers) {
                     *length = number as usize;
                 }
             }
@@ -113,17 +113,19 @@ impl Case {
     pub fn lent(&self) -> Lent {
         let buffer = |place: usize| {
             let mut buffer = self.given[place].clone();
-            buffer.resize(self.lengths[place], UNUSED);
+            buffer.resize(self.capacities[place], UNUSED);
             buffer
         };
         Lent {
             machine: self.machine,
-            register_marks: self.register_marks,
-            addresses: buffer(0),
-            numbers: buffer(1),
-            marks: buffer(2),
-            tape: buffer(3),
-            output: buffer(4),
+            extras: self.extras,
+            buffers: Buffers {
+                addresses: buffer(0),
+                numbers: buffer(1),
+                marks: buffer(2),
+                tape: buffer(3),
+                output: buffer(4),
+            },
         }
     }
 }

@@ -2,7 +2,7 @@
 
 use std::fmt::Write;
 
-use ola_library::{Answer, Lent};
+use ola::{Answer, Lent};
 
 use super::Machine;
 
@@ -46,8 +46,8 @@ impl Transcript {
 }
 
 fn parts(lent: &Lent) -> Vec<(&'static str, Vec<u64>)> {
-    let machine = &lent.machine;
-    let registers = [&machine.registers[..], &[lent.register_marks]].concat();
+    let (machine, buffers) = (&lent.machine, &lent.buffers);
+    let registers = [&machine.registers[..], &[lent.extras.registers]].concat();
     let state = [
         &[machine.pc, machine.clk, machine.psp],
         &machine.storage_addr[..],
@@ -58,11 +58,11 @@ fn parts(lent: &Lent) -> Vec<(&'static str, Vec<u64>)> {
         ("registers", registers),
         ("state", state),
         ("used", used),
-        ("addresses", lent.addresses.clone()),
-        ("numbers", lent.numbers.clone()),
-        ("marks", lent.marks.clone()),
-        ("tape", lent.tape.clone()),
-        ("output", lent.output.clone()),
+        ("addresses", buffers.addresses.clone()),
+        ("numbers", buffers.numbers.clone()),
+        ("marks", buffers.marks.clone()),
+        ("tape", buffers.tape.clone()),
+        ("output", buffers.output.clone()),
     ]
 }
 
