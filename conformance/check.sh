@@ -8,7 +8,7 @@ echo "The library:"
 python3 conformance/run.py target/bin/cases
 echo "The program solve:"
 python3 conformance/run.py --solve target/bin/solve
-rt staticlib capi >&2
+rt staticlib ola >&2
 cargo build --quiet --release --offline --manifest-path oracle/Cargo.toml -p compare
 echo "Its C interface:"
 python3 conformance/run.py oracle/target/release/compare play

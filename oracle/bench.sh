@@ -3,5 +3,5 @@
 # Arguments go to the benchmark, as `--only steps`; `--help` lists them.
 set -eu
 cd "$(dirname "$0")/.."
-rt staticlib capi >&2
+rt staticlib ola >&2
 exec cargo run --release --offline --manifest-path oracle/Cargo.toml -p bench -- --plot docs/performance.svg "$@"

@@ -3,5 +3,5 @@
 # command `all`, as --count and --seed. The tables go to standard output.
 set -eu
 cd "$(dirname "$0")/.."
-rt staticlib capi >&2
+rt staticlib ola >&2
 exec cargo run --release --offline --manifest-path oracle/Cargo.toml -p compare -- all "$@"

@@ -5,13 +5,19 @@
 
 #include "ola.h"
 
-/* All that a call is lent. */
-typedef struct {
-    ola_machine machine;
-    uint64_t register_marks;
-    uint64_t addresses[OLA_MOST_CELLS], numbers[OLA_MOST_CELLS], marks[OLA_MOST_CELLS];
-    uint64_t tape[OLA_MOST_VALUES], output[OLA_MOST_VALUES];
-} lent;
+/* What every solve below is lent; the machine's counts say how much of it is used. */
+static uint64_t addresses[OLA_MOST_CELLS], numbers[OLA_MOST_CELLS], marks[OLA_MOST_CELLS];
+static uint64_t tape[OLA_MOST_VALUES], output[OLA_MOST_VALUES];
+static const ola_buffers buffers = {
+    .addresses = addresses,
+    .numbers = numbers,
+    .marks = marks,
+    .cell_capacity = OLA_MOST_CELLS,
+    .tape = tape,
+    .tape_capacity = OLA_MOST_VALUES,
+    .output = output,
+    .output_capacity = OLA_MOST_VALUES,
+};
 
 /* Doubles 5, stores it in cell 3, hands it back. */
 static const uint64_t doubling[] = {
@@ -31,83 +37,68 @@ static const uint64_t guessing[] = {
 };
 static const size_t guessing_length = sizeof guessing / sizeof guessing[0];
 
-static void start(lent *l) {
-    const ola_machine machine = OLA_START;
-    memset(l, 0, sizeof *l);
-    l->machine = machine;
-}
-
 static void print_answer(const char *what, const ola_answer *answer, const ola_machine *machine) {
     printf("%s: %s %" PRIu64 " after %" PRIu64 " steps, pc %" PRIu64 ", clk %" PRIu64 "\n", what,
            answer->refused ? "refused" : "outcome", answer->number, answer->steps, machine->pc, machine->clk);
 }
 
-static void run(lent *l, uint64_t budget, ola_answer *answer) {
-    ola_run_words(doubling, doubling_length, budget, &l->machine, l->addresses, OLA_MOST_CELLS, l->numbers,
-                  OLA_MOST_CELLS, l->tape, OLA_MOST_VALUES, l->output, OLA_MOST_VALUES, answer);
-}
-
-static void in_one_call(lent *l) {
+static void in_one_call(void) {
+    ola_machine machine = OLA_START;
     ola_answer answer;
-    start(l);
-    run(l, 100, &answer);
-    print_answer("in one call", &answer, &l->machine);
-    for (uint64_t i = 0; i < l->machine.output_count; i++) {
-        printf("output: %" PRIu64 "\n", l->output[i]);
+    ola_run_words_in(doubling, doubling_length, 100, &machine, &buffers, &answer);
+    print_answer("in one call", &answer, &machine);
+    for (uint64_t i = 0; i < machine.output_count; i++) {
+        printf("output: %" PRIu64 "\n", output[i]);
     }
-    printf("kilosteps: %" PRIu64 "\n", ola_kilosteps(l->machine.clk));
+    printf("kilosteps: %" PRIu64 "\n", ola_kilosteps(machine.clk));
 }
 
-static void step_by_step(lent *l) {
+static void step_by_step(void) {
+    ola_machine machine = OLA_START;
     ola_answer answer;
-    start(l);
     do {
-        ola_step_words(doubling, doubling_length, &l->machine, l->addresses, OLA_MOST_CELLS, l->numbers,
-                       OLA_MOST_CELLS, l->tape, OLA_MOST_VALUES, l->output, OLA_MOST_VALUES, &answer);
-        print_answer("step", &answer, &l->machine);
+        ola_step_words_in(doubling, doubling_length, &machine, &buffers, &answer);
+        print_answer("step", &answer, &machine);
     } while (!answer.refused && answer.number == OLA_PAUSED);
 }
 
-static void with_a_pause(lent *l) {
+static void with_a_pause(void) {
+    ola_machine machine = OLA_START;
     ola_answer answer;
-    start(l);
-    run(l, 2, &answer);
-    print_answer("paused", &answer, &l->machine);
-    run(l, 100, &answer);
-    print_answer("gone on", &answer, &l->machine);
+    ola_run_words_in(doubling, doubling_length, 2, &machine, &buffers, &answer);
+    print_answer("paused", &answer, &machine);
+    ola_run_words_in(doubling, doubling_length, 100, &machine, &buffers, &answer);
+    print_answer("gone on", &answer, &machine);
 }
 
-static void refused(lent *l) {
+static void refused(void) {
     static const char text[] = "000000000000000b\n"
                                "0000\n";
+    const ola_machine machine = OLA_START;
     ola_answer answer;
-    start(l);
-    ola_check_text((const uint8_t *)text, strlen(text), &l->machine, l->addresses, OLA_MOST_CELLS, l->numbers,
-                   OLA_MOST_CELLS, l->tape, OLA_MOST_VALUES, l->output, OLA_MOST_VALUES, &answer);
-    print_answer("a short line", &answer, &l->machine);
+    ola_check_text_in((const uint8_t *)text, strlen(text), &machine, &buffers, &answer);
+    print_answer("a short line", &answer, &machine);
     printf("malformed frame: %" PRIu64 "\n", answer.frame);
 }
 
 /* The comparison may be made, but no jump may depend on it. */
-static void with_a_secret(lent *l) {
+static void with_a_secret(void) {
+    ola_machine machine = OLA_START;
+    ola_marks extras = {0};
     ola_answer answer;
-    start(l);
-    l->machine.registers[1] = 7;
-    l->machine.registers[2] = 12345;
-    l->register_marks = 1 << 2;
-    ola_guarded_run_words(guessing, guessing_length, 100, &l->machine, &l->register_marks, l->addresses,
-                          OLA_MOST_CELLS, l->numbers, OLA_MOST_CELLS, l->marks, OLA_MOST_CELLS, l->tape,
-                          OLA_MOST_VALUES, l->output, OLA_MOST_VALUES, &answer);
-    print_answer("with a secret", &answer, &l->machine);
-    printf("marked registers: %" PRIx64 "\n", l->register_marks);
+    machine.registers[1] = 7;
+    machine.registers[2] = 12345;
+    extras.registers = 1 << 2;
+    ola_guarded_run_words_in(guessing, guessing_length, 100, &machine, &extras, &buffers, &answer);
+    print_answer("with a secret", &answer, &machine);
+    printf("marked registers: %" PRIx64 "\n", extras.registers);
 }
 
 int main(void) {
-    static lent l;
-    in_one_call(&l);
-    step_by_step(&l);
-    with_a_pause(&l);
-    refused(&l);
-    with_a_secret(&l);
+    in_one_call();
+    step_by_step();
+    with_a_pause();
+    refused();
+    with_a_secret();
     return 0;
 }

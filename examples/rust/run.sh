@@ -2,5 +2,5 @@
 # Proves and builds the library, builds the example and runs it.
 set -eu
 cd "$(dirname "$0")/../.."
-rt staticlib capi >&2
+rt staticlib ola >&2
 exec cargo run --quiet --release --offline --manifest-path examples/rust/Cargo.toml --target-dir target/examples/rust

@@ -1,7 +1,7 @@
 //! The step machine from Rust: a solve in one call, step by step, with a pause, refused, and with a secret. Prints what
 //! examples/expected.txt has.
 
-use ola::{check, kilosteps, run, run_guarded, step, Answer, Lent, Machine, Program};
+use ola::{kilosteps, Answer, Lent, Machine, Program};
 
 /// Doubles 5, stores it in cell 3, hands it back.
 const DOUBLING: [u64; 9] = [
@@ -41,7 +41,7 @@ fn doubling(budget: u64) -> Program<'static> {
 
 fn in_one_call() {
     let mut lent = Lent::default();
-    let answer = run(doubling(100), &mut lent);
+    let answer = lent.run(doubling(100));
     print_answer("in one call", &answer, &lent.machine);
     for value in lent.used_output() {
         println!("output: {value}");
@@ -52,7 +52,7 @@ fn in_one_call() {
 fn step_by_step() {
     let mut lent = Lent::default();
     loop {
-        let answer = step(&DOUBLING, &mut lent);
+        let answer = lent.step(&DOUBLING);
         print_answer("step", &answer, &lent.machine);
         if !answer.is_paused() {
             break;
@@ -62,16 +62,16 @@ fn step_by_step() {
 
 fn with_a_pause() {
     let mut lent = Lent::default();
-    let answer = run(doubling(2), &mut lent);
+    let answer = lent.run(doubling(2));
     print_answer("paused", &answer, &lent.machine);
-    let answer = run(doubling(100), &mut lent);
+    let answer = lent.run(doubling(100));
     print_answer("gone on", &answer, &lent.machine);
 }
 
 fn refused() {
     let lent = Lent::default();
     let text = b"000000000000000b\n0000\n";
-    let answer = check(Program::Text { text, budget: 100 }, &lent);
+    let answer = lent.check(Program::Text { text, budget: 100 });
     print_answer("a short line", &answer, &lent.machine);
     println!("malformed frame: {}", answer.frame);
 }
@@ -81,14 +81,14 @@ fn with_a_secret() {
     let mut lent = Lent::default();
     lent.machine.registers[1] = 7;
     lent.machine.registers[2] = 12345;
-    lent.register_marks = 1 << 2;
+    lent.extras.registers = 1 << 2;
     let program = Program::Words {
         words: &GUESSING,
         budget: 100,
     };
-    let answer = run_guarded(program, &mut lent);
+    let answer = lent.guarded_run(program);
     print_answer("with a secret", &answer, &lent.machine);
-    println!("marked registers: {:x}", lent.register_marks);
+    println!("marked registers: {:x}", lent.extras.registers);
 }
 
 fn print_answer(what: &str, answer: &Answer, machine: &Machine) {
