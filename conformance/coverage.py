@@ -27,7 +27,7 @@ def main():
     order_table(given)
     sinks_table(given)
     if missing:
-        sys.exit("missing: " + "; ".join(missing))
+        sys.exit("coverage.py: the vectors do not cover: " + "; ".join(missing))
 
 
 def steps_of(name):

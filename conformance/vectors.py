@@ -1,13 +1,23 @@
 """The vectors: pairs of files, cases and the answers that an implementation must write for them."""
 
 import re
+import sys
 from pathlib import Path
 from typing import NamedTuple
 
 FOLDER = Path(__file__).parent / "vectors"
 
-# Of rules, format and vectors together.
-VERSION = (Path(__file__).parent / "VERSION").read_text().strip()
+
+def read(path):
+    """A file of this folder; the links of vectors/ may lead nowhere in a copy that did not follow them."""
+    try:
+        return path.read_bytes()
+    except OSError as error:
+        sys.exit(f"{path} cannot be read: {error.strerror}")
+
+
+# Of the rules, the format and the vectors, and of the C interface's records.
+VERSION = read(Path(__file__).parent / "VERSION").decode().strip()
 
 # From the most readable one to the largest.
 NAMES = ["worked", "replayed", "generated"]
@@ -41,7 +51,7 @@ class Answers(NamedTuple):
 
 def read_cases(name):
     """The cases' file, and each case."""
-    data = (FOLDER / f"{name}.cases").read_bytes()
+    data = read(FOLDER / f"{name}.cases")
     cases = []
     for number, line in enumerate(lines_of(data), 1):
         if line.startswith("case "):
@@ -52,7 +62,7 @@ def read_cases(name):
 
 
 def read_answers(name):
-    answers, _ = parse_answers((FOLDER / f"{name}.answers").read_bytes())
+    answers, _ = parse_answers(read(FOLDER / f"{name}.answers"))
     return answers
 
 

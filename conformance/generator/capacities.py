@@ -16,9 +16,9 @@ def case(name, words, cells_free=2, tape=(0x51, 0x52, 0x53), tape_free=2, output
         tape=list(tape),
         output=list(output),
         context=CONTEXT,
-        cells_length=len(CELLS) + cells_free,
-        tape_length=len(tape) + tape_free,
-        output_length=len(output) + output_free,
+        cell_capacity=len(CELLS) + cells_free,
+        tape_capacity=len(tape) + tape_free,
+        output_capacity=len(output) + output_free,
     )
 
 

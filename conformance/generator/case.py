@@ -24,10 +24,10 @@ class Case:
     cell_marks: set = field(default_factory=set)
     tape: list = field(default_factory=list)
     output: list = field(default_factory=list)
-    # The lent lengths, where they are not the greatest.
-    cells_length: int = MOST_CELLS
-    tape_length: int = MOST_VALUES
-    output_length: int = MOST_VALUES
+    # The capacities of the buffers, where they are not the greatest.
+    cell_capacity: int = MOST_CELLS
+    tape_capacity: int = MOST_VALUES
+    output_capacity: int = MOST_VALUES
     # Lines that take the place of those above, by their first word.
     damage: dict = field(default_factory=dict)
     # The lines plain and guarded: which run, and its budget, or None where the text has it.
@@ -39,12 +39,12 @@ class Case:
         marks = [int(address in self.cell_marks) for address in addresses]
         state = [self.pc, self.clk, self.psp, *self.context]
         used = [len(addresses), len(self.tape), len(self.output)]
-        lengths = [self.cells_length] * 3 + [self.tape_length, self.output_length]
+        capacities = [self.cell_capacity] * 3 + [self.tape_capacity, self.output_capacity]
         lines = {
             "registers": registers + [self.register_marks] if any(registers) or self.register_marks else [],
             "state": state if state != [0, 0, HEAP_END, 0, 0, 0, 0] else [],
             "used": used if any(used) else [],
-            "buffers": lengths if lengths != [MOST_CELLS] * 3 + [MOST_VALUES] * 2 else [],
+            "buffers": capacities if capacities != [MOST_CELLS] * 3 + [MOST_VALUES] * 2 else [],
             "addresses": addresses,
             "numbers": [self.cells[address] for address in addresses],
             "marks": marks if self.is_guarded() else [],

@@ -103,13 +103,13 @@ LINE_FAULTS = {
 
 # Refusal 3: lines that take the place of the state's own.
 COUNTS = [len(CELLS), len(TAPE), len(OUTPUT)]
-LENGTHS = [MOST_CELLS] * 3 + [MOST_VALUES] * 2
+CAPACITIES = [MOST_CELLS] * 3 + [MOST_VALUES] * 2
 RISING = sorted(CELLS)
 
 
-def lengths(**changes):
+def capacities(**changes):
     places = ["addresses", "numbers", "marks", "tape", "output"]
-    return [changes.get(place, length) for place, length in zip(places, LENGTHS)]
+    return [changes.get(place, capacity) for place, capacity in zip(places, CAPACITIES)]
 
 
 STATES = {
@@ -118,22 +118,22 @@ STATES = {
     "clk at its end": {"state": [0, CLOCK_END, HEAP_END]},
     "clk of all ones": {"state": [0, 2**64 - 1, HEAP_END]},
     "exactly long enough": {"buffers": [COUNTS[0]] * 3 + COUNTS[1:]},
-    "cell count above the length": {"buffers": [COUNTS[0] - 1] * 3 + LENGTHS[3:]},
-    "tape count above the length": {"buffers": lengths(tape=COUNTS[1] - 1)},
-    "output count above the length": {"buffers": lengths(output=COUNTS[2] - 1)},
+    "cell count above the length": {"buffers": [COUNTS[0] - 1] * 3 + CAPACITIES[3:]},
+    "tape count above the length": {"buffers": capacities(tape=COUNTS[1] - 1)},
+    "output count above the length": {"buffers": capacities(output=COUNTS[2] - 1)},
     "counts of all ones": {"used": [2**64 - 1] * 3},
     "cell count of 2^32": {"used": [2**32] + COUNTS[1:]},
     "tape count of 2^32": {"used": [COUNTS[0], 2**32, COUNTS[2]]},
     "output count of 2^32": {"used": COUNTS[:2] + [2**32]},
     "cell count 2^32 above the length": {"used": [2**32 + COUNTS[0]] + COUNTS[1:], "buffers": [COUNTS[0]] * 3 + COUNTS[1:]},
-    "addresses shorter than numbers": {"buffers": lengths(addresses=MOST_CELLS - 1)},
-    "numbers shorter than addresses": {"buffers": lengths(numbers=MOST_CELLS - 1)},
-    "marks shorter": {"buffers": lengths(marks=MOST_CELLS - 1)},
-    "marks longer": {"buffers": lengths(marks=MOST_CELLS + 1)},
-    "no marks": {"buffers": lengths(marks=0)},
-    "2049 cells": {"buffers": [MOST_CELLS + 1] * 3 + LENGTHS[3:]},
-    "tape of 4097": {"buffers": lengths(tape=MOST_VALUES + 1)},
-    "output of 4097": {"buffers": lengths(output=MOST_VALUES + 1)},
+    "addresses shorter than numbers": {"buffers": capacities(addresses=MOST_CELLS - 1)},
+    "numbers shorter than addresses": {"buffers": capacities(numbers=MOST_CELLS - 1)},
+    "marks shorter": {"buffers": capacities(marks=MOST_CELLS - 1)},
+    "marks longer": {"buffers": capacities(marks=MOST_CELLS + 1)},
+    "no marks": {"buffers": capacities(marks=0)},
+    "2049 cells": {"buffers": [MOST_CELLS + 1] * 3 + CAPACITIES[3:]},
+    "tape of 4097": {"buffers": capacities(tape=MOST_VALUES + 1)},
+    "output of 4097": {"buffers": capacities(output=MOST_VALUES + 1)},
     "two equal addresses": {"addresses": [1, 1] + RISING[2:]},
     "falling addresses": {"addresses": [2, 1] + RISING[2:]},
     "not rising beyond the count": {"addresses": RISING + [3, 2, 1]},

@@ -84,9 +84,9 @@ def case(random, index):
     )
     case.register_marks = random.pick([0, 1 << random.below(WORKED), random.below(1 << WORKED)])
     case.cell_marks = {address for address in cells if random.one_in(6)}
-    case.cells_length = random.pick([2048, len(cells) + 4])
-    case.tape_length = random.pick([4096, 24])
-    case.output_length = random.pick([4096, 8])
+    case.cell_capacity = random.pick([2048, len(cells) + 4])
+    case.tape_capacity = random.pick([4096, 24])
+    case.output_capacity = random.pick([4096, 8])
     return case
 
 

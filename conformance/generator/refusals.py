@@ -43,7 +43,7 @@ def number(refusal, name, settings):
 
 BOTH = value("op0") + value("op1")
 BOTH_IN_FIELD = number(7, "op0 not below p", {"r1": P}) + number(7, "op1 not below p", {"r2": P})
-NO_FREE_CELL = number(16, "no free cell", {"cells_length": len(CELLS)})
+NO_FREE_CELL = number(16, "no free cell", {"cell_capacity": len(CELLS)})
 
 FIELD = BOTH + destination() + BOTH_IN_FIELD
 EQUALITY = BOTH + destination()
@@ -115,14 +115,14 @@ BY_OPCODE = {
     + number(11, "start is p", {"r1": P})
     + number(11, "a cell absent", {"cells": {1: 0x11, 2: 0x12}})
     + marks("cell 2")
-    + number(16, "tape full", {"tape_length": len(TAPE) + 2})
-    + number(16, "output full", {"output_length": len(OUTPUT) + 2}),
+    + number(16, "tape full", {"tape_capacity": len(TAPE) + 2})
+    + number(16, "output full", {"output_capacity": len(OUTPUT) + 2}),
     "SCCALL": BOTH
     + marks("r1", "r2")
     + number(12, "the span reaches the stack's end", {"r1": STACK_END - 4})
     + number(11, "a cell absent", {"cells": {1: 0x11, 2: 0x12, 3: 0x13}})
     + marks("cell 2")
-    + number(16, "tape full", {"tape_length": len(TAPE) + 11}),
+    + number(16, "tape full", {"tape_capacity": len(TAPE) + 11}),
     "END": [],
     **{opcode: number(5, "not covered", {}) + number(6, "op1 absent", {"op1": ABSENT}) for opcode in UNCOVERED},
 }

@@ -53,9 +53,9 @@ def case(random, index):
         clk=random.pick([0, random.below(CLOCK_END), CLOCK_END - 1]),
         runs=[("plain", 1), ("guarded", 1)],
     )
-    case.cells_length = len(present) + random.pick([0, 1, 2, 40])
-    case.tape_length = len(case.tape) + random.pick([0, 2, 12, 40])
-    case.output_length = len(case.output) + random.pick([0, 2, 40])
+    case.cell_capacity = len(present) + random.pick([0, 1, 2, 40])
+    case.tape_capacity = len(case.tape) + random.pick([0, 2, 12, 40])
+    case.output_capacity = len(case.output) + random.pick([0, 2, 40])
     case.cell_marks = {address for address, value in present.items() if value < P and random.one_in(4)}
     below = [place for place in range(10) if case.registers[place] < P]
     case.register_marks = sum(1 << place for place in below if random.one_in(6))

@@ -145,14 +145,14 @@ impl Look<'_> {
                 let (op0, op1) = (op0()?, op1()?);
                 self.span(op0, op1)?;
                 let output = self.stepper.output().len() as u64 + op1;
-                room(self.stepper.tape_length() + op1 <= MOST_TAPE)?;
-                room(output <= MOST_OUTPUT as u64)
+                has_capacity(self.stepper.tape_length() + op1 <= MOST_TAPE)?;
+                has_capacity(output <= MOST_OUTPUT as u64)
             }
             OlaOpcode::SCCALL => {
                 let op0 = op0()?;
                 op1()?;
                 self.span(op0, 4)?;
-                room(self.stepper.tape_length() + 12 <= MOST_TAPE)
+                has_capacity(self.stepper.tape_length() + 12 <= MOST_TAPE)
             }
             OlaOpcode::POSEIDON
             | OlaOpcode::SLOAD
@@ -203,7 +203,7 @@ impl Look<'_> {
                 new.insert(*address);
             }
         }
-        room(cell_count(self.stepper.memory()) + new.len() <= MOST_CELLS)
+        has_capacity(cell_count(self.stepper.memory()) + new.len() <= MOST_CELLS)
     }
 
     fn span(&self, start: u64, length: u64) -> Result<(), Stop> {
@@ -244,7 +244,7 @@ fn below_p(number: u64) -> Result<(), Stop> {
     }
 }
 
-fn room(enough: bool) -> Result<(), Stop> {
+fn has_capacity(enough: bool) -> Result<(), Stop> {
     if enough {
         Ok(())
     } else {

@@ -18,19 +18,22 @@ fn main() -> ExitCode {
         ["replay", folder] => return write_replay(Path::new(folder)),
         ["differences"] => print!("{}", differences::text()),
         ["--help"] => print!("{HELP}"),
-        _ => {
-            eprint!("{HELP}");
-            return ExitCode::FAILURE;
-        }
+        [] => return wrong("no command"),
+        _ => return wrong(&format!("{}: no such command", arguments.join(" "))),
     }
     ExitCode::SUCCESS
+}
+
+fn wrong(what: &str) -> ExitCode {
+    eprint!("oracle: {what}\n{HELP}");
+    ExitCode::FAILURE
 }
 
 fn write_replay(folder: &Path) -> ExitCode {
     for (name, text) in [("stdin", replay::input()), ("stdout", replay::output())] {
         let path = folder.join(name);
         if let Err(error) = std::fs::write(&path, text) {
-            eprintln!("{}: {error}", path.display());
+            eprintln!("oracle: {} cannot be written: {error}", path.display());
             return ExitCode::FAILURE;
         }
         println!("wrote {}", path.display());

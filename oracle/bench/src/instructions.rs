@@ -69,9 +69,9 @@ pub fn run(arguments: &[String]) -> Result<(), String> {
             "{COUNTED} takes a row, a column and a number of steps"
         ));
     };
-    let (_, contender, guarded) = COLUMNS[column];
+    let (_, contender, with_marks) = COLUMNS[column];
     for workload in &programs::rows()[row] {
-        calls(workload, steps as u64)[guarded as usize].tries()[contender]();
+        calls(workload, steps as u64)[with_marks as usize].tries()[contender]();
     }
     Ok(())
 }

@@ -1,4 +1,4 @@
-//! Buffers of the greatest length, holding a start.
+//! Buffers of the greatest capacities, holding a start.
 
 use ola::{Buffers, Lent, Machine, Marks};
 use oracle::domain::{MOST_CELLS, MOST_OUTPUT, MOST_TAPE};
@@ -27,8 +27,8 @@ pub fn lent(start: &State) -> Lent {
     }
 }
 
-fn padded<'a>(values: impl IntoIterator<Item = &'a u64>, length: usize) -> Vec<u64> {
+fn padded<'a>(values: impl IntoIterator<Item = &'a u64>, capacity: usize) -> Vec<u64> {
     let mut buffer: Vec<u64> = values.into_iter().copied().collect();
-    buffer.resize(length, 0);
+    buffer.resize(capacity, 0);
     buffer
 }

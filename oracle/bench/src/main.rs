@@ -57,17 +57,19 @@ fn options() -> Result<Option<Options>, String> {
     };
     let mut arguments = args().skip(1);
     while let Some(argument) = arguments.next() {
-        let mut value = || arguments.next().ok_or(format!("{argument} of what?"));
+        let mut value = || arguments.next().ok_or(format!("{argument} needs a value"));
         match argument.as_str() {
             "--only" => options.only = Some(value()?),
             "--plot" => options.plot = Some(value()?),
             "--before" => options.before = Some(value()?),
             "--help" => return Ok(None),
-            _ => return Err(format!("{argument} is no option")),
+            _ => return Err(format!("{argument}: no such option")),
         }
     }
     match &options.only {
-        Some(part) if !PARTS.contains(&part.as_str()) => Err(format!("{part} is no part")),
+        Some(part) if !PARTS.contains(&part.as_str()) => {
+            Err(format!("--only {part}: no such part"))
+        }
         _ => Ok(Some(options)),
     }
 }

@@ -11,7 +11,7 @@ pub struct Workload {
     pub name: &'static str,
     pub program: Vec<Frame>,
     pub start: State,
-    /// MarkState that meet no sink: a bit for each register, and every cell or none.
+    /// Marks that meet no sink: a bit for each register, and every cell or none.
     pub marked_registers: u64,
     pub marked_cells: bool,
     /// How many times as fast as `resume` the plain run has to be, and how many times as slow as the yardstick it may be.

@@ -32,10 +32,10 @@ pub fn table() -> String {
 
 fn line(row: &[Workload]) -> String {
     let rounds = Rounds::pooled(row.iter().map(measure));
-    let [resume, yardstick, plain, clean, guarded] = [0, 1, 2, 3, 4];
+    let [resume, yardstick, plain, unmarked, marked] = [0, 1, 2, 3, 4];
     let speedup = rounds.ratio(resume, plain);
     let of_yardstick = rounds.ratio(plain, yardstick);
-    let of_plain = [clean, guarded].map(|run| {
+    let of_plain = [unmarked, marked].map(|run| {
         let ratio = rounds.ratio(run, plain);
         verdict(ratio, ratio <= MOST_OF_PLAIN)
     });
@@ -45,8 +45,8 @@ fn line(row: &[Workload]) -> String {
         rounds.time(resume),
         rounds.time(yardstick),
         rounds.time(plain),
-        rounds.time(clean),
-        rounds.time(guarded),
+        rounds.time(unmarked),
+        rounds.time(marked),
         verdict(speedup, speedup >= row[0].wanted_speedup),
         verdict(of_yardstick, of_yardstick <= row[0].most_of_yardstick),
         of_plain[0],
@@ -57,14 +57,14 @@ fn line(row: &[Workload]) -> String {
 /// Nanoseconds a step of `resume`, the yardstick, the plain run, and the guarded run without and with marks.
 fn measure(workload: &Workload) -> Rounds {
     let [without_marks, with_marks] = calls(workload, STEPS);
-    let [yardstick, plain, clean] = without_marks.tries();
-    let [.., guarded] = with_marks.tries();
+    let [yardstick, plain, unmarked] = without_marks.tries();
+    let [.., marked] = with_marks.tries();
     let tries = [
         Box::new(|| of_resume(workload)),
         each_step(yardstick),
         each_step(plain),
-        each_step(clean),
-        each_step(guarded),
+        each_step(unmarked),
+        each_step(marked),
     ];
     Rounds::of(ROUNDS, &tries)
 }

@@ -161,13 +161,13 @@ fn around(random: &mut SplitMix64, limit: usize) -> usize {
     limit - 1 + random.below(3) as usize
 }
 
-/// Its whole length, or more.
+/// Its whole capacity, or more.
 fn bad_count(random: &mut SplitMix64, buffer: &[u64]) -> u64 {
-    let length = buffer.len() as u64;
+    let capacity = buffer.len() as u64;
     random.pick(&[
-        length,
-        length + 1,
-        length + 1000,
+        capacity,
+        capacity + 1,
+        capacity + 1000,
         1 << 32,
         1 << 63,
         u64::MAX - 1,

@@ -127,7 +127,7 @@ fn alike(one: &Lent, other: &Lent) -> Result<(), String> {
     Ok(())
 }
 
-/// As far as count and length go.
+/// As far as count and capacity go.
 fn same_used(name: &str, count: usize, one: &[u64], other: &[u64]) -> Result<(), String> {
     let mut pairs = one.iter().zip(other).take(count).enumerate();
     match pairs.find(|(_, (a, b))| a != b) {
@@ -146,11 +146,11 @@ fn beside_plain(
     let Program::Words { words, budget } = program else {
         return Err("only words are compared here".to_string());
     };
-    let is_marked = answer.refused == 1 && answer.number == 18;
-    if is_marked && answer.steps >= budget {
+    let at_sink = answer.refused == 1 && answer.number == 18;
+    if at_sink && answer.steps >= budget {
         return Err(format!("18 after {} steps of {budget}", answer.steps));
     }
-    let (plain_budget, expected) = if is_marked {
+    let (plain_budget, expected) = if at_sink {
         let paused = Answer {
             number: 3,
             steps: answer.steps,

@@ -9,7 +9,7 @@ use crate::model::{Capacity, Model};
 /// What stands in the buffers beyond their counts.
 const UNUSED: u64 = 0xA5A5_A5A5_A5A5_A5A5;
 
-/// The longest buffers that may be lent.
+/// The greatest capacities that are not refused.
 pub const GREATEST: Capacity = Capacity {
     cells: MOST_CELLS,
     tape: MOST_TAPE as usize,

@@ -67,12 +67,12 @@ fn main() -> ExitCode {
         Some((name, [])) if name == "play" => play::play(Machine::Library),
         Some((name, [])) if name == "play-model" => play::play(Machine::Model),
         Some((name, rest)) => compare(name, rest),
-        None => Err(help()),
+        None => Err(format!("no command\n{}", help())),
     };
     match result {
         Ok(()) => ExitCode::SUCCESS,
         Err(what) => {
-            eprintln!("{what}");
+            eprintln!("compare: {what}");
             ExitCode::FAILURE
         }
     }

@@ -31,10 +31,11 @@ impl Options {
         let mut rest = arguments.iter();
         while let Some(name) = rest.next() {
             let value = rest.next().ok_or(format!("{name} needs a value"))?;
-            let wrong = |_| format!("{name} {value}: not a number");
+            let wrong = |_| format!("{name} {value}: not a decimal number");
+            let wrong_seed = |_| format!("{name} {value}: not a hexadecimal number");
             match name.as_str() {
                 "--count" => options.count = value.parse().map_err(wrong)?,
-                "--seed" => options.seed = u64::from_str_radix(value, 16).map_err(wrong)?,
+                "--seed" => options.seed = u64::from_str_radix(value, 16).map_err(wrong_seed)?,
                 "--only" => options.only = Some(value.parse().map_err(wrong)?),
                 _ => return Err(format!("{name}: no such option")),
             }

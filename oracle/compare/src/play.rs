@@ -49,8 +49,9 @@ impl Machine {
 pub fn play(machine: Machine) -> Result<(), String> {
     let mut input = vec![];
     let mut output = String::new();
-    let failed = |error: std::io::Error| error.to_string();
-    std::io::stdin().read_to_end(&mut input).map_err(failed)?;
+    std::io::stdin()
+        .read_to_end(&mut input)
+        .map_err(|error| format!("standard input cannot be read: {error}"))?;
     let mut case = Case::default();
     for (number, line) in (1..).zip(input.split(|byte| *byte == b'\n')) {
         let understood = match line.first() {
@@ -72,11 +73,14 @@ pub fn play(machine: Machine) -> Result<(), String> {
             }
             Some(_) => case.take(line),
         };
-        understood.ok_or(format!("line {number} is not understood"))?;
+        understood.ok_or_else(|| {
+            let line = String::from_utf8_lossy(line);
+            format!("standard input, line {number}: not a line of a case: {line}")
+        })?;
     }
     std::io::stdout()
         .write_all(output.as_bytes())
-        .map_err(failed)
+        .map_err(|error| format!("standard output cannot be written: {error}"))
 }
 
 fn repeat(line: &[u8], output: &mut String) {

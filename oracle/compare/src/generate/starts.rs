@@ -1,4 +1,4 @@
-//! States as they are lent: in buffers of some length, with marks, and pairs that differ in marked numbers alone.
+//! States as they are lent: in buffers of some capacity, with marks, and pairs that differ in marked numbers alone.
 
 use ola::Lent;
 use oracle::domain::P;

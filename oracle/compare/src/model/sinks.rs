@@ -1,4 +1,4 @@
-//! The listed uses of document 01, section 'Marks'.
+//! The sinks: the listed uses of document 01, section 'Marks'.
 
 use ola_core::vm::opcodes::OlaOpcode;
 
@@ -21,7 +21,7 @@ pub struct Sink {
     pub place: Use,
 }
 
-/// The listed uses, in document 01's order.
+/// All sinks, in document 01's order.
 pub fn all_sinks() -> Vec<Sink> {
     use OlaOpcode::*;
     let listed: [(&[OlaOpcode], &[Use]); 7] = [

@@ -77,8 +77,8 @@ impl Case {
                 put(numbers, counts);
             }
             b'b' => {
-                for (length, number) in self.capacities.iter_mut().zip(numbers) {
-                    *length = number as usize;
+                for (capacity, number) in self.capacities.iter_mut().zip(numbers) {
+                    *capacity = number as usize;
                 }
             }
             b'a' => self.given[0] = numbers,
