@@ -2,7 +2,7 @@
 use crate::Effect;
 use crate::memory;
 use hardware::cells;
-use hardware::cells::Pair;
+use hardware::cells::Found;
 use rules::Refusal;
 ghost use mathlib.Core.List.{List};
 ghost use Prim.Native.Nat.{ℕ, _-_};
@@ -23,7 +23,7 @@ pub fn call(target: u64, next: u64, frame: u64, count: usize, addresses: &[u64])
     memory::store_cell(frame - 1, next, target, count, addresses)
 }
 
-// RET: the pc from below R9, R9 from below that.
+// RET: the pc from below R9, R9 from below that. The two cells stand side by side.
 pub fn return_from(
     guarded: bool,
     frame: u64,
@@ -38,18 +38,25 @@ pub fn return_from(
     if frame < 2 {
         return Effect::refuse(Refusal::CellAbsent);
     }
-    match cells::read_pair(guarded, count, frame - 2, addresses, numbers, marks) {
-        Pair::Absent => Effect::refuse(Refusal::CellAbsent),
-        Pair::Present {
-            low,
-            low_marked,
-            high,
-            high_marked,
-        } => {
-            if high_marked {
-                return Effect::sink();
+    match cells::find(count, frame - 2, addresses) {
+        Found::Absent(_) => Effect::refuse(Refusal::CellAbsent),
+        Found::At(at) => {
+            if !cells::is_next(count, at, frame - 1, addresses) {
+                return Effect::refuse(Refusal::CellAbsent);
             }
-            Effect::set_register(9, low, low_marked, high)
+            let high = at + 1;
+            if guarded {
+                if cells::is_marked_at(high, marks) {
+                    return Effect::sink();
+                }
+            }
+            let mark = guarded && cells::is_marked_at(at, marks);
+            Effect::set_register(
+                9,
+                cells::number_at(at, numbers),
+                mark,
+                cells::number_at(high, numbers),
+            )
         }
     }
 }

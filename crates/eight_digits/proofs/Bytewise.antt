@@ -13,7 +13,7 @@ use Rattle.rules.specs.declared.HexWord.{HexWord}
 use Rattle.rules.specs.declared.HexWord.the-variants.{Word, NotHex}
 use Rattle.rules.specs.Numbers.{choose}
 use Rattle.rules.specs.Hexadecimal.{digitOf, onDigit, digitsOf}
-use Rattle.rules.proofs.Computed.{at}
+use Rattle.rules.proofs.Laws.Computed.{at}
 use Rattle.eight_digits.specs.EightDigits.{byte, characters, eightDigits}
 use Rattle.eight_digits.proofs.Appending.{digits-snoc}
 use Rattle.eight_digits.proofs.Lanes.{lanes, rep, rep-lanes, id-lanes, same-lanes, add-lanes, times-lanes, lanes-lt, tested, and-lanes, or-lanes, xor-lanes}

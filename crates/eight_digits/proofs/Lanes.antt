@@ -6,7 +6,7 @@ use native.Mathlib.Omega.{arith}
 use lib.Arith.{digits-lt}
 use lib.Dec.{T, ltb, ltb→lt}
 use lib.Bits.{bitAnd, bitOr, bitXor, and-block, or-block, xor-block}
-use Rattle.rules.proofs.Computed.{every, at}
+use Rattle.rules.proofs.Laws.Computed.{every, at}
 
 -- each of the n low bytes of w, replaced by what f makes of it
 unfoldable pub lanes : (ℕ → ℕ) → ℕ → ℕ → ℕ

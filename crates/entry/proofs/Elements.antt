@@ -11,7 +11,7 @@ use lib.Seq.{drop-cons}
 use borrow.Author.Tests.{lt-ltb, le-ltb, le-leb, lt-leb}
 use Rattle.rules.specs.Numbers.{p, heapEnd}
 use Rattle.rules.specs.Entry.{every, risingFrom, lowBits, markedBelow}
-use Rattle.rules.proofs.BoolLaws.{and-with-false}
+use Rattle.rules.proofs.Laws.BoolLaws.{and-with-false}
 
 module _ (l : List ℕ) (i : ℕ) where
   abbrev element : ℕ

@@ -118,7 +118,14 @@ pub fn accepts(
     tape: &[u64],
     output: &[u64],
 ) -> bool
-    ensures { λ r. ⌜ r ≡ plainEntry (record { machine = machine; addresses = now (addresses .entry); numbers = now (numbers .entry); tape = now (tape .entry); output = now (output .entry) }) ⌝ }
+    ensures { λ r. ⌜ r
+        ≡ plainEntry (record {
+          machine = machine;
+          addresses = now (addresses .entry);
+          numbers = now (numbers .entry);
+          tape = now (tape .entry);
+          output = now (output .entry);
+        }) ⌝ }
 {
     if clock::CLOCK_END <= machine.clk {
         return false;
@@ -158,7 +165,18 @@ pub fn accepts_marks(
     numbers: &[u64],
     marks: &[u64],
 ) -> bool
-    ensures { λ r. ⌜ ((tape output : List ℕ) → r ≡ marksEntry (record { plain = record { machine = machine; addresses = now (addresses .entry); numbers = now (numbers .entry); tape = tape; output = output }; marks = now (marks .entry); extras = extras })) ⌝ }
+    ensures { λ r. ⌜ ((tape output : List ℕ) → r
+        ≡ marksEntry (record {
+          plain = record {
+            machine = machine;
+            addresses = now (addresses .entry);
+            numbers = now (numbers .entry);
+            tape = tape;
+            output = output;
+          };
+          marks = now (marks .entry);
+          extras = extras;
+        })) ⌝ }
 {
     if marks.len() != addresses.len() {
         return false;

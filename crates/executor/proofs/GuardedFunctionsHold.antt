@@ -1,5 +1,5 @@
 -- The theorem: demand 3 holds of each public guarded function.
-use Rattle.rules.proofs.NonInterferenceHolds.{words-hold, text-holds, job-holds, budget-text-holds}
+use Rattle.rules.proofs.NonInterference.NonInterferenceHolds.{words-hold, text-holds, job-holds, budget-text-holds}
 use Rattle.executor.specs.GuardedFunctions.{NonInterfering}
 
 pub non-interfering : NonInterfering

@@ -15,7 +15,7 @@ use Rattle.rules.specs.Memory.{absent, present}
 use Rattle.rules.specs.Cells.{get, put, addresses, contents}
 use Rattle.rules.specs.Step.{overlay}
 use Rattle.rules.specs.Entry.{risingFrom}
-use Rattle.rules.proofs.CellLaws.{length-addresses, addresses-zipped, contents-zipped}
+use Rattle.rules.proofs.Laws.CellLaws.{length-addresses, addresses-zipped, contents-zipped}
 use Rattle.hardware.specs.declared.cells.Found.the-variants as Found
 use Rattle.hardware.specs.declared.cells.Cell.the-variants as Cell
 use Rattle.hardware.specs.declared.cells.Span.the-variants as Span

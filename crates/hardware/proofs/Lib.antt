@@ -6,6 +6,7 @@ pub mod StoreLaws
 pub mod SpliceLaws
 pub mod PlaceLaws
 pub mod WriteLaws
+pub mod PartLaws
 pub mod BufferLaws
 pub mod OverwriteLaws
 pub mod RoomLaws

@@ -10,7 +10,7 @@ use Rattle.rules.specs.Numbers.{choose, heapEnd, wordEnd}
 use Rattle.rules.specs.Cells.{Cells, put, addresses, contents, markCells}
 use Rattle.rules.specs.Step.{overlay}
 use Rattle.rules.specs.Guarded.{cleanMany}
-use Rattle.rules.proofs.CellLaws.{length-addresses}
+use Rattle.rules.proofs.Laws.CellLaws.{length-addresses}
 use Rattle.hardware.specs.Buffers.{rank, hasAll, cellsOf, putMany, Rising, Ordered, Holding}
 use Rattle.hardware.specs.Places.{overwritten, zeros}
 use Rattle.hardware.proofs.SpliceLaws.{present-many}

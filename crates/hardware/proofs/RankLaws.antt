@@ -10,7 +10,7 @@ use borrow.Author.Tests.{lt-ltb, le-ltb, ltb-true, ltb-false, leb-true, leb-fals
 use mir.Val.{boolByte}
 use Rattle.rules.specs.Numbers.{heapEnd, choose}
 use Rattle.rules.specs.Entry.{risingFrom}
-use Rattle.rules.proofs.BoolLaws.{false-true, and-left, and-right, and-true, or-second}
+use Rattle.rules.proofs.Laws.BoolLaws.{false-true, and-left, and-right, and-true, or-second}
 use Rattle.hardware.specs.Buffers.{rank, lastAtMost, has, hasAll, missing}
 
 -- Rising lists

@@ -10,7 +10,7 @@ use Rattle.rules.specs.Numbers.{choose}
 use Rattle.rules.specs.Cells.{Cells, count, addresses, contents, markCells}
 use Rattle.rules.specs.Step.{overlay}
 use Rattle.rules.specs.Guarded.{cleanMany}
-use Rattle.rules.proofs.CellLaws.{length-addresses}
+use Rattle.rules.proofs.Laws.CellLaws.{length-addresses}
 use Rattle.hardware.specs.Buffers.{rank, missing, cellsOf, putMany, Rising, Ordered, Holding}
 use Rattle.hardware.specs.Places.{overwritten, zeros, consecutive, spliced, moved}
 use Rattle.hardware.proofs.StoreLaws.{count-putMany}

@@ -1,6 +1,6 @@
 -- Cells read through their addresses: one cell, and a span of cells, whose contents stand side by side.
 use Prim.Native.Nat.{ℕ, zero, suc, _+_, _-_, _≤_, _<_}
-use mathlib.Core.Path.{_≡_, refl, sym, ap, _∙_}
+use mathlib.Core.Path.{_≡_, refl, sym, _∙_}
 use mathlib.Core.Bool.{Bool, true, false, _&&_, _||_}
 use mathlib.Core.List.{List, _∷_}
 use native.Mathlib.Omega.{arith}
@@ -17,8 +17,8 @@ use Rattle.rules.specs.PlainMap.{isPresent}
 use Rattle.rules.specs.Step.{readMany}
 use Rattle.rules.specs.Guarded.{spanMark}
 use Rattle.rules.specs.Entry.{risingFrom}
-use Rattle.rules.proofs.BoolLaws.{false-true, and-left, and-right, or-first, or-equal}
-use Rattle.rules.proofs.CellLaws.{length-addresses, length-contents}
+use Rattle.rules.proofs.Laws.BoolLaws.{false-true, and-left, and-right, or-first, or-equal}
+use Rattle.rules.proofs.Laws.CellLaws.{length-addresses, length-contents}
 use Rattle.hardware.specs.Buffers.{rank, has, hasAll, anyMark}
 use Rattle.hardware.proofs.RankLaws.{rising-rest, rising-at, rank-length, has-rank, rank-next}
 

@@ -10,7 +10,7 @@ use lib.Seq.{drop-cons, drop-drop}
 use borrow.Author.Tests.{lt-ltb, le-ltb, ltb-true, ltb-false, le-leb, ne-eqb, eqb-true, eqb-false}
 use Rattle.rules.specs.Cells.{Cells, none, cell, put, addresses, contents}
 use Rattle.rules.specs.Entry.{risingFrom}
-use Rattle.rules.proofs.BoolLaws.{and-left, and-right, and-true}
+use Rattle.rules.proofs.Laws.BoolLaws.{and-left, and-right, and-true}
 use Rattle.hardware.specs.Buffers.{rank, has, hasAll, putMany}
 use Rattle.hardware.specs.Places.{overwritten, consecutive, spliced}
 use Rattle.hardware.proofs.RankLaws.{rising-first, rising-rest, rank-below, rank-next, has-rank}

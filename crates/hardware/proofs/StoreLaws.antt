@@ -8,18 +8,17 @@ use native.Mathlib.Omega.{arith}
 use lib.Dec.{ltb, leb, eqb}
 use lib.ListN.{length}
 use borrow.Author.Tests.{lt-ltb, le-leb, ltb-true, ltb-false, eqb-true, eqb-false}
-use Rattle.rules.specs.declared.Refusal.{Refusal}
 use Rattle.rules.specs.declared.Refusal.the-variants.{StoreFault, ProphetStore}
 use Rattle.rules.specs.Numbers.{p, heapEnd, choose}
-use Rattle.rules.specs.Results.{refuse, pass, require}
+use Rattle.rules.specs.Results.{pass}
 use Rattle.rules.specs.Cells.{Cells, none, cell, put, count, addresses, contents, numberCells, markCells, Rising}
 use Rattle.rules.specs.PlainMap.{isPresent}
 use Rattle.rules.specs.Step.{isStorable, storeMany}
 use Rattle.rules.specs.Guarded.{cleanMany}
 use Rattle.rules.specs.Entry.{risingFrom, every}
-use Rattle.rules.proofs.BoolLaws.{and-left, and-right, and-true}
-use Rattle.rules.proofs.ResultLaws.{refuse-pass, pass-injective, require-pass, pass-require}
-use Rattle.rules.proofs.CellLaws.{get-put-other, count-put, zipped-again, zipped-rising, rising-put as map-rising-put}
+use Rattle.rules.proofs.Laws.BoolLaws.{and-left, and-right, and-true}
+use Rattle.rules.proofs.Laws.ResultLaws.{pass-injective, require-pass, pass-require}
+use Rattle.rules.proofs.Laws.CellLaws.{get-put-other, count-put, zipped-again, zipped-rising, rising-put as map-rising-put}
 use Rattle.hardware.specs.Buffers.{has, missing, putMany}
 use Rattle.hardware.proofs.RankLaws.{rising-rest}
 use Rattle.hardware.proofs.SpanLaws.{present-has}

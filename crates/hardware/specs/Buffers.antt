@@ -16,8 +16,6 @@ use Rattle.hardware.specs.declared.cells.Found.{Found}
 use Rattle.hardware.specs.declared.cells.Found.the-variants as Found
 use Rattle.hardware.specs.declared.cells.Cell.{Cell}
 use Rattle.hardware.specs.declared.cells.Cell.the-variants as Cell
-use Rattle.hardware.specs.declared.cells.Pair.{Pair}
-use Rattle.hardware.specs.declared.cells.Pair.the-variants as Pair
 use Rattle.hardware.specs.declared.cells.Span.{Span}
 use Rattle.hardware.specs.declared.cells.Span.the-variants as Span
 
@@ -68,15 +66,6 @@ slotCell (present v) t = Cell.Present v t
 -- a cell, and in a guarded run its mark
 abbrev pub cellOf : Bool → Cells ℕ → Cells ℕ → ℕ → Cell
 cellOf guarded c t a = slotCell (get c a) (guarded && cellMark markCells t a)
-
-abbrev pub slotPair : Slot ℕ → Bool → Slot ℕ → Bool → Pair
-slotPair absent t q u = Pair.Absent
-slotPair (present v) t absent u = Pair.Absent
-slotPair (present v) t (present w) u = Pair.Present v t w u
-
--- the cells at an address and behind it, and in a guarded run their marks
-abbrev pub pairOf : Bool → Cells ℕ → Cells ℕ → ℕ → Pair
-pairOf guarded c t a = slotPair (get c a) (guarded && cellMark markCells t a) (get c (suc a)) (guarded && cellMark markCells t (suc a))
 
 -- the cells with values from an address on
 abbrev pub putMany : Cells ℕ → ℕ → List ℕ → Cells ℕ

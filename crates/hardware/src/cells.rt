@@ -3,11 +3,11 @@
 use crate::tape;
 use goldilocks::GoldilocksField;
 ghost use mathlib.Core.Path.{_≡_};
-ghost use mathlib.Core.Bool.{true};
+ghost use mathlib.Core.Bool.{true, _&&_};
 ghost use mathlib.Core.List.{_++_};
 ghost use Prim.Native.Nat.{ℕ, _+_, _≤_, _<_};
-ghost use lib.Dec.{leb};
-ghost use lib.ListN.{length, set, take, drop};
+ghost use lib.Dec.{leb, eqb};
+ghost use lib.ListN.{length, getD, set, take, drop};
 ghost use Rattle.rules.specs.Numbers.{choose, bit, heapEnd, wordEnd};
 ghost use Rattle.rules.specs.Cells as Cells;
 ghost use Rattle.rules.specs.Cells.{put};
@@ -15,7 +15,8 @@ ghost use Rattle.rules.specs.Step.{overlay};
 ghost use Rattle.rules.specs.Guarded.{cleanMany};
 ghost use Rattle.rules.specs.Entry.{risingFrom};
 ghost use Rattle.hardware.specs.declared.cells.Found.the-variants as Found;
-ghost use Rattle.hardware.specs.Buffers.{rank, lastAtMost, foundOf, spanOf, missing, anyMark, cellsOf, cellOf, pairOf, putMany, Rising, Ordered, Holding};
+ghost use Rattle.hardware.specs.Buffers.{rank, lastAtMost, foundOf, spanOf, missing, Rising, Ordered, Holding};
+ghost use Rattle.hardware.specs.Buffers.{cellsOf, cellOf, putMany, anyMark};
 ghost use Rattle.hardware.specs.Places.{insertAt, overwritten, zeros, consecutive, spliced, moved};
 
 // Where an address is, or where it would go.
@@ -33,17 +34,6 @@ pub enum Cell {
 impl Cell {
     // The largest number that a cell can hold, which is p.
     pub const LARGEST: u64 = GoldilocksField::ORDER;
-}
-
-// What stands at two addresses that follow each other, where both are present. Marks are told only in a guarded run.
-pub enum Pair {
-    Present {
-        low: u64,
-        low_marked: bool,
-        high: u64,
-        high_marked: bool,
-    },
-    Absent,
 }
 
 // Where the first of a span's cells is, if all are present.
@@ -149,7 +139,9 @@ pub fn read(
     marks: &[u64],
 ) -> Cell
     requires { ⌜ Ordered guarded count (now addresses) (now numbers) (now marks) ⌝ }
-    ensures { λ r. ⌜ r ≡ cellOf guarded (cellsOf count (now (addresses .entry)) (now (numbers .entry))) (cellsOf count (now (addresses .entry)) (now (marks .entry))) address ⌝ }
+    ensures { λ r. ⌜ r
+        ≡ cellOf guarded (cellsOf count (now (addresses .entry)) (now (numbers .entry)))
+        (cellsOf count (now (addresses .entry)) (now (marks .entry))) address ⌝ }
 {
     match find(count, address, addresses) {
         Found::At(at) => Cell::Present {
@@ -160,38 +152,32 @@ pub fn read(
     }
 }
 
-// Reads the cell at an address and the one after it, which stand side by side.
-pub fn read_pair(
-    guarded: bool,
-    count: usize,
-    address: u64,
-    addresses: &[u64],
-    numbers: &[u64],
-    marks: &[u64],
-) -> Pair
-    requires { ⌜ Ordered guarded count (now addresses) (now numbers) (now marks) ⌝ }
-    requires { ⌜ address + 1 < wordEnd ⌝ }
-    ensures { λ r. ⌜ r
-        ≡ pairOf guarded (cellsOf count (now (addresses .entry)) (now (numbers .entry)))
-        (cellsOf count (now (addresses .entry)) (now (marks .entry))) address ⌝ }
+// Is the cell behind a place the one at an address?
+pub fn is_next(count: usize, at: usize, address: u64, addresses: &[u64]) -> bool
+    requires { ⌜ at < count ⌝ }
+    requires { ⌜ count ≤ length (now addresses) ⌝ }
+    ensures { λ r. ⌜ r ≡ leb (at + 2) count && eqb (getD (now (addresses .entry)) (at + 1) 0) address ⌝ }
 {
-    match find(count, address, addresses) {
-        Found::Absent(_) => Pair::Absent,
-        Found::At(at) => {
-            if count - at < 2 {
-                return Pair::Absent;
-            }
-            if addresses[at + 1] != address + 1 {
-                return Pair::Absent;
-            }
-            Pair::Present {
-                low: numbers[at],
-                low_marked: guarded && marks[at] == 1,
-                high: numbers[at + 1],
-                high_marked: guarded && marks[at + 1] == 1,
-            }
-        }
+    if count - at < 2 {
+        return false;
     }
+    addresses[at + 1] == address
+}
+
+// The number of the cell at a place.
+pub fn number_at(at: usize, numbers: &[u64]) -> u64
+    requires { ⌜ at < length (now numbers) ⌝ }
+    ensures { λ r. ⌜ r ≡ getD (now (numbers .entry)) at 0 ⌝ }
+{
+    numbers[at]
+}
+
+// Is the cell at a place marked?
+pub fn is_marked_at(at: usize, marks: &[u64]) -> bool
+    requires { ⌜ at < length (now marks) ⌝ }
+    ensures { λ r. ⌜ r ≡ eqb (getD (now (marks .entry)) at 0) 1 ⌝ }
+{
+    marks[at] == 1
 }
 
 // The numbers of the four cells from a place on.
@@ -317,7 +303,8 @@ pub fn insert(
     requires { ⌜ Found.Absent at ≡ foundOf (take count (now addresses)) address ⌝ }
     ensures { λ _. ⌜ Holding guarded (put (cellsOf count (now (addresses .entry)) (now (numbers .entry))) address number)
         (put (cellsOf count (now (addresses .entry)) (now (marks .entry))) address (bit mark)) (count + 1)
-        (now (addresses .entry)) (now (numbers .entry)) (now (marks .entry)) (now (addresses .exit)) (now (numbers .exit)) (now (marks .exit)) ⌝ }
+        (now (addresses .entry)) (now (numbers .entry)) (now (marks .entry))
+        (now (addresses .exit)) (now (numbers .exit)) (now (marks .exit)) ⌝ }
 {
     insert_at(count, at, number, numbers);
     insert_at(count, at, address, addresses);
@@ -342,7 +329,8 @@ fn overwrite(guarded: bool, at: usize, values: &[u64], numbers: &mut [u64], mark
     requires { ⌜ at + length (now values) ≤ length (now numbers) ⌝ }
     requires { ⌜ (guarded ≡ true → length (now marks) ≡ length (now numbers)) ⌝ }
     ensures { λ _. ⌜ now (numbers .exit) ≡ overwritten at (now (values .entry)) (now (numbers .entry)) ⌝ }
-    ensures { λ _. ⌜ now (marks .exit) ≡ choose guarded (overwritten at (zeros (now (values .entry))) (now (marks .entry))) (now (marks .entry)) ⌝ }
+    ensures { λ _. ⌜ now (marks .exit)
+        ≡ choose guarded (overwritten at (zeros (now (values .entry))) (now (marks .entry))) (now (marks .entry)) ⌝ }
 {
     let end = at + values.len();
     tape::write_values(values, &mut numbers[at..end]);
@@ -415,8 +403,8 @@ fn make_room(
     requires { ⌜ count + missing (take count (now addresses)) start n ≤ length (now addresses) ⌝ }
     ensures { λ r. ⌜ r ≡ count + missing (take count (now (addresses .entry))) start n ⌝ }
     ensures { λ _. ⌜ now (addresses .exit)
-        ≡ overlay (spliced low (rank (take count (now (addresses .entry))) (start + n)) (consecutive start n) (take count (now (addresses .entry))))
-        (now (addresses .entry)) ⌝ }
+        ≡ overlay (spliced low (rank (take count (now (addresses .entry))) (start + n)) (consecutive start n)
+        (take count (now (addresses .entry)))) (now (addresses .entry)) ⌝ }
     ensures { λ _. ⌜ now (numbers .exit)
         ≡ moved count (rank (take count (now (addresses .entry))) (start + n)) (low + n) (now (numbers .entry)) ⌝ }
     ensures { λ _. ⌜ now (marks .exit)
@@ -445,7 +433,10 @@ pub fn store_many(
     requires { ⌜ Ordered guarded count (now addresses) (now numbers) (now marks) ⌝ }
     requires { ⌜ (0 < length (now values) → start + length (now values) ≤ heapEnd) ⌝ }
     requires { ⌜ Cells.count (putMany (cellsOf count (now addresses) (now numbers)) start (now values)) ≤ length (now addresses) ⌝ }
-    ensures { λ r. ⌜ Holding guarded (putMany (cellsOf count (now (addresses .entry)) (now (numbers .entry))) start (now (values .entry))) (cleanMany Cells.markCells (cellsOf count (now (addresses .entry)) (now (marks .entry))) start (now (values .entry))) r (now (addresses .entry)) (now (numbers .entry)) (now (marks .entry)) (now (addresses .exit)) (now (numbers .exit)) (now (marks .exit)) ⌝ }
+    ensures { λ r. ⌜ Holding guarded (putMany (cellsOf count (now (addresses .entry)) (now (numbers .entry))) start (now (values .entry)))
+        (cleanMany Cells.markCells (cellsOf count (now (addresses .entry)) (now (marks .entry))) start (now (values .entry))) r
+        (now (addresses .entry)) (now (numbers .entry)) (now (marks .entry))
+        (now (addresses .exit)) (now (numbers .exit)) (now (marks .exit)) ⌝ }
 {
     match find_span(count, start, values.len() as u64, addresses) {
         Span::At(at) => {

@@ -10,6 +10,7 @@ use borrow.Author.Tests.{eq-eqb, ne-eqb}
 use Rattle.rules.specs.declared.HexWord.{HexWord}
 use Rattle.rules.specs.declared.HexWord.the-variants.{Word, NotHex}
 use Rattle.rules.specs.Hexadecimal.{digitOf, onDigit, digitsOf, wordOf}
+use Rattle.eight_digits.specs.EightDigits.{characters, eightDigits}
 use Rattle.eight_digits.proofs.Appending.{digits-append}
 use Rattle.hexadecimal.proofs.Digits.{digit-lt}
 
@@ -22,8 +23,12 @@ module _ (s : List ℕ) (at : ℕ) (inside : at + 8 ≤ length s) where
       let l : at + i < length s = omega arith in
       rw (k, drop-cons s (at + i) 0 l, e)
 
-  pub eight-characters : take 8 (drop at s)
-      ≡ getD s at 0 ∷ getD s (at + 1) 0 ∷ getD s (at + 2) 0 ∷ getD s (at + 3) 0 ∷ getD s (at + 4) 0 ∷ getD s (at + 5) 0 ∷ getD s (at + 6) 0 ∷ getD s (at + 7) 0 ∷ []
+  abbrev listed : List ℕ
+  listed =
+      getD s at 0 ∷ getD s (at + 1) 0 ∷ getD s (at + 2) 0 ∷ getD s (at + 3) 0
+      ∷ getD s (at + 4) 0 ∷ getD s (at + 5) 0 ∷ getD s (at + 6) 0 ∷ getD s (at + 7) 0 ∷ []
+
+  eight-characters : take 8 (drop at s) ≡ listed
   eight-characters =
       ap (λ (k : ℕ). take 8 (drop k s)) (sym (add-zero at))
       ∙ next 0 (omega arith)
@@ -35,6 +40,10 @@ module _ (s : List ℕ) (at : ℕ) (inside : at + 8 ≤ length s) where
       (next 5 (omega arith) ∙ ap (λ (r : List ℕ). getD s (at + 5) 0 ∷ r)
       (next 6 (omega arith) ∙ ap (λ (r : List ℕ). getD s (at + 6) 0 ∷ r)
       (next 7 (omega arith))))))))
+
+  -- the word that has them has their number
+  pub eight-read : (w : ℕ) → characters w ≡ listed → eightDigits w ≡ digitsOf 0 (take 8 (drop at s))
+  eight-read w e = ap (digitsOf 0) (e ∙ sym eight-characters)
 
 -- a number before the digits
 digits-after : (cs : List ℕ) (k b : ℕ) → digitsOf (k + b) cs ≡ onDigit (digitsOf b cs) (λ n. Word (k * 16 ^ length cs + n))

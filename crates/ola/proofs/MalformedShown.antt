@@ -7,7 +7,7 @@ use lib.ListN.{getD}
 use Rattle.rules.specs.Answers.{Meaning, outcome, refusal}
 use Rattle.rules.specs.Calls.{Called}
 use Rattle.rules.specs.MalformedFrames.{Numbered, Carried, CarriesEarliest}
-use Rattle.rules.proofs.EarliestCarried.{calls-carry-earliest}
+use Rattle.rules.proofs.EntryRefusals.EarliestCarried.{calls-carry-earliest}
 use Rattle.records.specs.Records.{calleeOf, answerRecord}
 use Rattle.ola.specs.MalformedRecords.{ShowsEarliest, RecordsShowEarliest}
 

@@ -2,7 +2,6 @@
 //
 // Internal, for the crates above: `values::compute`, `marks::{is_any, with_mark}`.
 pub mod marks;
-pub mod opcodes;
 pub mod values;
 
 use rules::Refusal;

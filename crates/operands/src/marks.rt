@@ -3,7 +3,7 @@ ghost use mathlib.Core.Path.{_≡_};
 ghost use Prim.Native.Nat.{_<_};
 ghost use lib.ListN.{set};
 ghost use Rattle.rules.specs.Entry.{lowBits, wordOfBits};
-ghost use Rattle.program.specs.Table.{isAny};
+ghost use Rattle.frames.specs.RegisterSets.{setEnd, isAny};
 
 // Is one of a set's registers marked?
 pub fn is_any(marks: u64, registers: u64) -> bool
@@ -14,9 +14,9 @@ pub fn is_any(marks: u64, registers: u64) -> bool
 
 // The marks after a register was written.
 pub fn with_mark(marks: u64, register: usize, mark: bool) -> u64
-    requires { ⌜ marks < 1024 ⌝ }
+    requires { ⌜ marks < setEnd ⌝ }
     requires { ⌜ register < 10 ⌝ }
-    ensures { λ r. ⌜ (r ≡ wordOfBits (set (lowBits 10 marks) register mark)) × (r < 1024) ⌝ }
+    ensures { λ r. ⌜ (r ≡ wordOfBits (set (lowBits 10 marks) register mark)) × (r < setEnd) ⌝ }
 {
     let bit = 1 << register;
     if mark {

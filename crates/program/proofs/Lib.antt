@@ -1,9 +1,5 @@
 -- What the functions' proofs have in common; for the crates above, what follows from a fetch, and how many rows are enough.
-pub mod Cases
-pub mod ByOpcode
-pub mod Selectors
 pub mod OperandKinds
-pub mod Sets
 pub mod Frames
 pub mod Decoding
 pub mod Writing

@@ -10,7 +10,7 @@ use lib.Seq.{drop-cons, drop-drop}
 use borrow.Author.Tests.{eq-eqb, ne-eqb, ltb-true, ltb-false}
 use Rattle.rules.specs.Numbers.{choose}
 use Rattle.rules.specs.Text.{ended, unended, lineFeed, linesAfter, linesOf}
-use Rattle.program.proofs.Cases.{cases}
+use Rattle.frames.proofs.Cases.{cases}
 use Rattle.program_text.specs.TextLines.{lineLength}
 
 -- one character more or less

@@ -18,7 +18,7 @@ use Rattle.rules.specs.declared.Instruction.{Instruction}
 use Rattle.rules.specs.Frames.{valueCount, exactFrameOf}
 use Rattle.rules.specs.Hexadecimal.{digitOf, onDigit, digitsOf, wordOf}
 use Rattle.rules.specs.Text.{ended, unended, lineFeed, consWord, joinedWords, frameOfWords, frameOfLine, linesOf}
-use Rattle.program.proofs.Cases.{cases}
+use Rattle.frames.proofs.Cases.{cases}
 use Rattle.program.proofs.Frames.{value-count-le}
 use Rattle.program_text.specs.TextLines.{lineLength, FrameEnd, FrameRead, FrameHere, MalformedHere, ReadsLine, ReadsFrame}
 use Rattle.program_text.specs.declared.lines.Line.{Line}

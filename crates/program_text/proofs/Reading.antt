@@ -14,7 +14,7 @@ use Rattle.rules.specs.declared.Frame.the-variants.{Holds, Malformed}
 use Rattle.rules.specs.Numbers.{choose}
 use Rattle.rules.specs.Frames.{firstWordFits, valueCount, frameFits, frameOf, exactFrameOf, instructionOf}
 use Rattle.rules.specs.Text.{ended, joinedWords, frameOfWords, frameOfLine}
-use Rattle.program.proofs.Cases.{cases}
+use Rattle.frames.proofs.Cases.{cases}
 use Rattle.program_text.specs.TextLines.{part, ReadsWords, FrameRead}
 use Rattle.program_text.proofs.Framing.{joined-take, joined-length, line, line-length}
 

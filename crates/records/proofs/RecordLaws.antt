@@ -13,7 +13,7 @@ use Rattle.rules.specs.Answers.{Meaning, refusalMeaning, meaning}
 use Rattle.report.specs.declared.label.Label.{Label}
 use Rattle.report.specs.declared.label.Label.the-variants as L
 use Rattle.report.specs.ReportLines.{Labels, outcome-label, refusal-label, frame-label}
-use Rattle.records.specs.Records.{machineOf, machineRecord, RecordsKept, calleeOf, answerRecord}
+use Rattle.records.specs.Records.{machineOf, machineRecord, marksOf, marksRecord, RecordsKept, calleeOf, answerRecord}
 
 -- n words from a place on
 abbrev listed : ℕ → ℕ → List ℕ → List ℕ
@@ -49,9 +49,16 @@ pub record-listed : (m : Machine) → length (m .registers) ≡ 10 → length (m
     → machineRecord (withArrays m (listed 0 10 (m .registers)) (listed 0 4 (m .«storage_addr»))) ≡ machineRecord m
 record-listed m h k = ap machineRecord (ap₂ (withArrays m) (listed-all 10 (m .registers) h) (listed-all 4 (m .«storage_addr») k))
 
-pub records-kept : RecordsKept
+machine-kept : (r : List ℕ) → length r ≡ 20 → machineRecord (machineOf r) ≡ r
 unfolding machineOf machineRecord
-records-kept r h = sym (ap machineRecord (machine-listed r h)) ∙ listed-all 20 r h
+machine-kept r h = sym (ap machineRecord (machine-listed r h)) ∙ listed-all 20 r h
+
+extras-kept : (r : List ℕ) → length r ≡ 1 → marksRecord (marksOf r) ≡ r
+unfolding marksOf marksRecord
+extras-kept r h = listed-all 1 r h
+
+pub records-kept : RecordsKept
+records-kept = record { machine = machine-kept; extras = extras-kept }
 
 -- the same answer has the same callee
 pub same-callee : {a known : Answer} → a ≡ known → calleeOf (meaning known) ≡ calleeOf (meaning a)

@@ -1,5 +1,5 @@
-// What a caller is shown of a call: the used output, kilosteps, and the lines that `solve` prints. `print` writes into the buffer that it is
-// lent; nothing else is touched.
+// What a caller is shown of a call: the used output, kilosteps, and the lines that `solve` prints. `print` writes into the buffer that
+// it is lent; nothing else is touched.
 //
 // Public: `used_output`, `kilosteps`, `print`.
 // Internal, for the crates above: `label::label_of`, the one table of numbers.
@@ -48,7 +48,8 @@ pub fn kilosteps(clk: u64) -> u64
 // Writes the lines that `solve` prints of a call, from the buffer's start on; where they do not fit, nothing is written. A call
 // refused at entry shows zeros and no output.
 pub fn print(answer: Answer, steps: u64, machine: Machine, output: &[u64], buffer: &mut [u8]) -> Put
-    ensures { λ r. ⌜ Writes (printed (reported answer steps machine (now (output .entry)))) (now (buffer .entry)) 0 r (now (buffer .exit)) ⌝ }
+    ensures { λ r. ⌜ Writes (printed (reported answer steps machine (now (output .entry))))
+        (now (buffer .entry)) 0 r (now (buffer .exit)) ⌝ }
 {
     let label = label::label_of(answer);
     if label::is_entry_refusal(label) {

@@ -1,5 +1,5 @@
 -- The cases of document 01, in its order and in its numbers. A row is a call and what is looked at after it, and then what document 01
--- says: the answer, the steps, and the numbers looked at. The theorems stand in proofs/AllCases.antt.
+-- says: the answer, the steps, and the numbers looked at. The theorems stand in proofs/Cases/AllCases.antt.
 use Prim.Native.Nat.{ℕ}
 use mathlib.Core.Path.{_≡_}
 use mathlib.Core.List.{List, [], _∷_, _++_, map}

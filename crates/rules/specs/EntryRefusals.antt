@@ -1,5 +1,5 @@
 -- Refusals 1, 2 and 3: a row for each condition of document 01's table, and rows at its edge that pass. What passes is END, which gives e0.
--- The theorems stand in proofs/AllCases.antt.
+-- The theorems stand in proofs/Cases/AllCases.antt.
 use Prim.Native.Nat.{ℕ}
 use mathlib.Core.Path.{_≡_}
 use mathlib.Core.List.{List, [], _∷_, _++_}

@@ -33,6 +33,10 @@ clockEnd = 1000000000000
 unfoldable pub frameLimit : ℕ
 frameLimit = 512
 
+-- the most words of a program: a frame has at most four
+abbrev pub wordLimit : ℕ
+wordLimit = 2048
+
 unfoldable pub textLimit : ℕ
 textLimit = 65536
 

@@ -1,6 +1,6 @@
 -- The order of the refusals: a pair for any two that can meet in one call, or in one step of the plain machine. Each pair has a call in
 -- which the conditions of both hold, with the answer that document 01's table puts first, and that call with the first condition mended,
--- with the other answer. Refusal 18 is in SinkOrder.antt. The theorems stand in proofs/AllCases.antt.
+-- with the other answer. Refusal 18 is in SinkOrder.antt. The theorems stand in proofs/Cases/AllCases.antt.
 use Prim.Native.Nat.{ℕ, zero, suc}
 use mathlib.Core.Path.{_≡_}
 use mathlib.Core.List.{List, [], _∷_, _++_}

@@ -1,5 +1,5 @@
 -- What a call leaves can be handed in again: the buffers keep their lengths, and the snapshot stands for the state that the run left.
-use Prim.Native.Nat.{ℕ, _<_}
+use Prim.Native.Nat.{_<_}
 use mathlib.Core.Path.{_≡_}
 use mathlib.Core.Bool.{true}
 use mathlib.Core.List.{List}

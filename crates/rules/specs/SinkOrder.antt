@@ -1,5 +1,5 @@
 -- Refusal 18 among the others, in pairs as in RefusalOrder.antt. Where 18 comes first, `sinkBefore` has the guarded step, and the plain step
--- of the same, which knows no mark and gives the other refusal. The theorems stand in proofs/AllCases.antt.
+-- of the same, which knows no mark and gives the other refusal. The theorems stand in proofs/Cases/AllCases.antt.
 use Prim.Native.Nat.{ℕ}
 use mathlib.Core.List.{List, [], _∷_, _++_}
 use Rattle.rules.specs.declared.OlaOpcode.{OlaOpcode}

@@ -1,5 +1,5 @@
 -- What each opcode gives, how far it moves pc, what it marks, and what `solve` prints of refusals. Document 01, 'The step', the end of
--- 'Frames', 'Marks' and the end of 'Cases'. The theorems stand in proofs/AllCases.antt.
+-- 'Frames', 'Marks' and the end of 'Cases'. The theorems stand in proofs/Cases/AllCases.antt.
 use Prim.Native.Nat.{ℕ}
 use mathlib.Core.Path.{_≡_}
 use mathlib.Core.List.{List, [], _∷_, _++_}

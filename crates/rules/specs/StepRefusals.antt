@@ -1,6 +1,6 @@
 -- Refusals 4 to 16 and the outcomes: a row for each condition of document 01's table, rows at its edge that pass, and what a step leaves.
 -- The order of refusals stands in RefusalOrder.antt and behind it, the clock in StoreOrder.antt, 18 in SinkOrder.antt. The theorems stand
--- in proofs/AllCases.antt.
+-- in proofs/Cases/AllCases.antt.
 use Prim.Native.Nat.{ℕ}
 use mathlib.Core.List.{List, [], _∷_, _++_}
 use Rattle.rules.specs.declared.OlaOpcode.the-variants as O

@@ -1,5 +1,5 @@
 -- The order of the refusals, from the tape to the clock, in pairs as in RefusalOrder.antt. The theorems stand in
--- proofs/AllCases.antt.
+-- proofs/Cases/AllCases.antt.
 use Prim.Native.Nat.{ℕ}
 use mathlib.Core.List.{List, [], _∷_}
 use Rattle.rules.specs.declared.OlaOpcode.the-variants as O

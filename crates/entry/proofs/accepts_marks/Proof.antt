@@ -34,7 +34,7 @@ marked-below-requires c κs = search needs
 
 -- what `marked_below` answers
 cells-below : (c : tie.After-marked-below)
-    → let a = c .before .before .before .before .before .before .before .before .before .before .before .args in
+    → let a = c .before .before .before .before .before .before .before .before .before .before .before .before .args in
     let n = a .machine .«cell_count» in
     c .marked-below .result ≡ markedBelow (marked (take n (a .marks .now))) (take n (a .numbers .now))
 cells-below c =

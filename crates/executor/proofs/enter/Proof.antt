@@ -1,6 +1,6 @@
 -- `executor::enter` meets its contract: the entry's tests pass and the run is made, or the call is refused 3.
 use mathlib.Core.Path.{refl, sym, _∙_}
-use Rattle.rules.proofs.BoolLaws.{false-true}
+use Rattle.rules.proofs.Laws.BoolLaws.{false-true}
 use Rattle.interpreter.proofs.BothRuns.{runs-plain}
 use Rattle.executor.proofs.Answered.{refused-is, entered, unfit}
 use borrow.Author.Needs.{needs}

@@ -1,9 +1,8 @@
 -- `hexadecimal::eight` meets its contract: the eight reads are in range, and are the characters that `packed` puts in one word.
-use mathlib.Core.Path.{sym, ap, _∙_}
+use mathlib.Core.Path.{_∙_}
 use borrow.Author.Needs.{needs}
 use denote.Ref.{now}
-use Rattle.rules.specs.Hexadecimal.{digitsOf}
-use Rattle.hexadecimal.proofs.Reading.{eight-characters}
+use Rattle.hexadecimal.proofs.Reading.{eight-read}
 use Rattle.hexadecimal.proofs.eight.Statement.{statement}
 use Rattle.hexadecimal.proofs.eight.Tie as tie
 
@@ -62,7 +61,7 @@ returns : tie.Need-returns
 returns c =
     let p = c .before in
     let k = p .before .before .before .before .before .before .before .before .before .before in
-    c .number .ensures ∙ ap (digitsOf 0) (p .packed .ensures ∙ sym (eight-characters (now (k .args .s)) (k .args .at) (k .pre)))
+    c .number .ensures ∙ eight-read (now (k .args .s)) (k .args .at) (k .pre) (p .packed .result) (p .packed .ensures)
 
 pub eight-spec : {M : Type 1} → statement M
 eight-spec =

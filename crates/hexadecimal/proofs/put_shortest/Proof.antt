@@ -15,7 +15,7 @@ same-length c = search needs
 
 returns : tie.Need-returns
 unfolding shortestHex
-returns c = rw (c .before .before .before .digit-count .ensures) at (c .before .before .put-digits .ensures)
+returns c = rw (c .before .before .before .before .digit-count .ensures) at (c .before .before .put-digits .ensures)
 
 pub put-shortest-spec : {M : Type 1} → statement M
 put-shortest-spec = tie.close (tie.spec digit-count-requires put-digits-requires same-length returns)

@@ -30,7 +30,7 @@ returns c =
     let l = c .before .before .before .before .before .before .before .label-of in
     let entry = sym (c .before .before .before .before .before .before .is-entry-refusal .ensures) ∙ c .before .before .before .before .before .if1 .taken in
     let e = shown-entry (a .steps) (a .machine) (now (a .output)) (l .ensures) entry in
-    writes-as (e ∙ sym (ap (linesFrom (l .result) 0 0 0) (c .before .before .before .used-output .ensures))) (c .before .before .put-lines .ensures)
+    writes-as (e ∙ sym (ap (linesFrom (l .result) 0 0 0) (c .before .before .before .before .used-output .ensures))) (c .before .before .put-lines .ensures)
 
 used-output-requires-2 : tie.Need-used-output-requires-2
 used-output-requires-2 c κs = search needs
@@ -49,7 +49,7 @@ returns-2 c =
     let l = c .before .before .before .before .before .before .before .label-of in
     let entry = sym (c .before .before .before .before .before .before .is-entry-refusal .ensures) ∙ c .before .before .before .before .before .if1 .left in
     let e = shown (a .steps) m (now (a .output)) (l .ensures) entry in
-    writes-as (e ∙ sym (ap (linesFrom (l .result) (a .steps) (m .pc) (m .clk)) (c .before .before .before .used-output2 .ensures))) (c .before .before .put-lines2 .ensures)
+    writes-as (e ∙ sym (ap (linesFrom (l .result) (a .steps) (m .pc) (m .clk)) (c .before .before .before .before .used-output2 .ensures))) (c .before .before .put-lines2 .ensures)
 
 pub print-spec : {M : Type 1} → statement M
 print-spec =

@@ -3,7 +3,7 @@ use mathlib.Core.Path.{_≡_, refl, ap}
 use mathlib.Core.Bool.{Bool, true, false, _&&_}
 use Prim.Native.Nat.{ℕ}
 use borrow.Author.Needs.{needs}
-use Rattle.program.specs.Table.{isAny}
+use Rattle.frames.specs.RegisterSets.{isAny}
 use Rattle.effects.proofs.marks.is_source_marked.Statement.{statement}
 use Rattle.effects.proofs.marks.is_source_marked.Tie as tie
 

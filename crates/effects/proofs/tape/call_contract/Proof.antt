@@ -36,7 +36,10 @@ sink-requires c κs = search needs
 
 returns : tie.Need-returns
 unfolding sinkWhere
-returns c = rw (sym (c .before .before .before .before .before .before .find-cells .ensures) ∙ c .before .before .before .before .at .given .1, sym (c .before .before .is-part-marked .ensures) ∙ c .before .if1 .taken) (c .sink .ensures)
+returns c =
+    let m = c .before .before in
+    let k = m .before .before in
+    rw (← (k .before .before .find-cells .ensures), k .at .given .1, ← (m .is-part-marked .ensures), c .before .if1 .taken) (c .sink .ensures)
 
 sub-if2 : tie.Need-sub-if2
 sub-if2 c = search needs
@@ -47,20 +50,36 @@ refuse-requires-2 c κs = search needs
 returns-2 : tie.Need-returns-2
 unfolding sinkWhere check
 returns-2 c =
-    let s = c .before .before .before .before .before .before .before .before .before .before .before .args in
-    rw (sym (c .before .before .before .before .before .before .before .find-cells .ensures) ∙ c .before .before .before .before .before .at .given .1, sym (c .before .before .before .is-part-marked .ensures) ∙ c .before .before .if1 .left, lt-leb (s .used + 12) (length (s .tape .now)) (omega arith)) (c .refuse2 .ensures)
+    let m = c .before .before .before in
+    let k = m .before .before in
+    let s = k .before .before .before .before .before .before .args in
+    rw (
+      ← (k .before .before .find-cells .ensures),
+      k .at .given .1,
+      ← (m .is-part-marked .ensures),
+      c .before .before .if1 .left,
+      lt-leb (s .used + 12) (length (s .tape .now)) (omega arith),
+    ) (c .refuse2 .ensures)
 
 call-contract-requires : tie.Need-call-contract-requires
 call-contract-requires c κs = search needs
 
 returns-3 : tie.Need-returns-3
-returns-3 c = rw (sym (c .before .before .before .before .find-cells .ensures) ∙ c .before .before .f .given .1) (c .refuse .ensures)
+returns-3 c = rw (← (c .before .before .before .before .find-cells .ensures), c .before .before .f .given .1) (c .refuse .ensures)
 
 returns-4 : tie.Need-returns-4
 unfolding sinkWhere check
 returns-4 c =
-    let s = c .before .before .before .before .before .before .before .before .before .before .before .args in
-    rw (sym (c .before .before .before .before .before .before .before .find-cells .ensures) ∙ c .before .before .before .before .before .at .given .1, sym (c .before .before .before .is-part-marked .ensures) ∙ c .before .before .if1 .left, le-leb (s .used + 12) (length (s .tape .now)) (omega arith)) (c .call-contract .ensures)
+    let m = c .before .before .before in
+    let k = m .before .before in
+    let s = k .before .before .before .before .before .before .args in
+    rw (
+      ← (k .before .before .find-cells .ensures),
+      k .at .given .1,
+      ← (m .is-part-marked .ensures),
+      c .before .before .if1 .left,
+      le-leb (s .used + 12) (length (s .tape .now)) (omega arith),
+    ) (c .call-contract .ensures)
 
 pub call-contract-spec : {M : Type 1} → statement M
 call-contract-spec =

@@ -6,7 +6,7 @@ use lib.ListN.{take}
 use borrow.Author.Needs.{needs}
 use borrow.Author.Tests.{not-true, not-false, ltb-true, lt-ltb, le-ltb}
 use Rattle.rules.specs.Numbers.{p, wordEnd}
-use Rattle.rules.proofs.BoolLaws.{and-left}
+use Rattle.rules.proofs.Laws.BoolLaws.{and-left}
 use Rattle.hardware.proofs.BufferLaws.{span-at}
 use Rattle.effects.proofs.Spans.{span-absent}
 use Rattle.effects.proofs.tape.find_cells.Statement.{statement}

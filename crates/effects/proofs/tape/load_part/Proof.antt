@@ -21,7 +21,7 @@ refuse-requires c κs = search needs
 
 returns : tie.Need-returns
 unfolding check
-returns c = rw (sym (c .before .before .reaches-word-end .ensures) ∙ c .before .if1 .taken) (c .refuse .ensures)
+returns c = rw (← (c .before .before .reaches-word-end .ensures), c .before .if1 .taken) (c .refuse .ensures)
 
 add-end : tie.Need-add-end
 add-end c = search needs
@@ -65,8 +65,15 @@ load-tape-requires c κs = search needs
 returns-2 : tie.Need-returns-2
 unfolding check
 returns-2 c =
-    let s = c .before .before .before .before .before .before .before .before .before .before .before .args in
-    rw (sym (c .before .before .before .before .before .before .before .before .reaches-word-end .ensures) ∙ c .before .before .before .before .before .before .before .if1 .left, ap (testsOf (s .address)) (sym (part-between (s .from) (s .n) (s .tape .now))) ∙ sym (c .before .before .before .before .before .test-values .ensures) ∙ c .before .before .before .enum-told .given .1, sym (c .before .before .has-capacity .ensures) ∙ c .before .if2 .taken) (c .load-tape .ensures)
+    let v = c .before .before .before .before .before in
+    let s = v .before .before .before .before .before .before .args in
+    rw (
+      ← (v .before .before .before .reaches-word-end .ensures),
+      v .before .before .if1 .left,
+      ap (testsOf (s .address)) (sym (part-between (s .from) (s .n) (s .tape .now))) ∙ sym (v .test-values .ensures) ∙ c .before .before .before .enum-told .given .1,
+      ← (c .before .before .has-capacity .ensures),
+      c .before .if2 .taken,
+    ) (c .load-tape .ensures)
 
 refuse-requires-3 : tie.Need-refuse-requires-3
 refuse-requires-3 c κs = search needs
@@ -74,14 +81,26 @@ refuse-requires-3 c κs = search needs
 returns-3 : tie.Need-returns-3
 unfolding check
 returns-3 c =
-    let s = c .before .before .before .before .before .before .before .before .before .before .args in
-    rw (sym (c .before .before .before .before .before .before .before .reaches-word-end .ensures) ∙ c .before .before .before .before .before .before .if1 .left, ap (testsOf (s .address)) (sym (part-between (s .from) (s .n) (s .tape .now))) ∙ sym (c .before .before .before .before .test-values .ensures) ∙ c .before .before .f .given .1) (c .refuse2 .ensures)
+    let v = c .before .before .before .before in
+    let s = v .before .before .before .before .before .before .args in
+    rw (
+      ← (v .before .before .before .reaches-word-end .ensures),
+      v .before .before .if1 .left,
+      ap (testsOf (s .address)) (sym (part-between (s .from) (s .n) (s .tape .now))) ∙ sym (v .test-values .ensures) ∙ c .before .before .f .given .1,
+    ) (c .refuse2 .ensures)
 
 returns-4 : tie.Need-returns-4
 unfolding check
 returns-4 c =
-    let s = c .before .before .before .before .before .before .before .before .before .before .before .args in
-    rw (sym (c .before .before .before .before .before .before .before .before .reaches-word-end .ensures) ∙ c .before .before .before .before .before .before .before .if1 .left, ap (testsOf (s .address)) (sym (part-between (s .from) (s .n) (s .tape .now))) ∙ sym (c .before .before .before .before .before .test-values .ensures) ∙ c .before .before .before .enum-told .given .1, sym (c .before .before .has-capacity .ensures) ∙ c .before .if2 .left) (c .refuse3 .ensures)
+    let v = c .before .before .before .before .before in
+    let s = v .before .before .before .before .before .before .args in
+    rw (
+      ← (v .before .before .before .reaches-word-end .ensures),
+      v .before .before .if1 .left,
+      ap (testsOf (s .address)) (sym (part-between (s .from) (s .n) (s .tape .now))) ∙ sym (v .test-values .ensures) ∙ c .before .before .before .enum-told .given .1,
+      ← (c .before .before .has-capacity .ensures),
+      c .before .if2 .left,
+    ) (c .refuse3 .ensures)
 
 pub load-part-spec : {M : Type 1} → statement M
 load-part-spec =

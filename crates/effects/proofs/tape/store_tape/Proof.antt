@@ -36,7 +36,10 @@ sink-requires c κs = search needs
 
 returns : tie.Need-returns
 unfolding sinkWhere
-returns c = rw (sym (c .before .before .before .before .before .before .find-cells .ensures) ∙ c .before .before .before .before .at .given .1, sym (c .before .before .is-part-marked .ensures) ∙ c .before .if1 .taken) (c .sink .ensures)
+returns c =
+    let m = c .before .before in
+    let k = m .before .before in
+    rw (← (k .before .before .find-cells .ensures), k .at .given .1, ← (m .is-part-marked .ensures), c .before .if1 .taken) (c .sink .ensures)
 
 sub-if2 : tie.Need-sub-if2
 sub-if2 c = search needs
@@ -47,8 +50,16 @@ refuse-requires-2 c κs = search needs
 returns-2 : tie.Need-returns-2
 unfolding sinkWhere check
 returns-2 c =
-    let s = c .before .before .before .before .before .before .before .before .before .before .before .before .args in
-    rw (sym (c .before .before .before .before .before .before .before .find-cells .ensures) ∙ c .before .before .before .before .before .at .given .1, sym (c .before .before .before .is-part-marked .ensures) ∙ c .before .before .if1 .left, lt-leb (s .used + s .n) (length (s .tape .now)) (omega arith)) (c .refuse2 .ensures)
+    let m = c .before .before .before in
+    let k = m .before .before in
+    let s = k .before .before .before .before .before .before .before .args in
+    rw (
+      ← (k .before .before .find-cells .ensures),
+      k .at .given .1,
+      ← (m .is-part-marked .ensures),
+      c .before .before .if1 .left,
+      lt-leb (s .used + s .n) (length (s .tape .now)) (omega arith),
+    ) (c .refuse2 .ensures)
 
 sub-if3 : tie.Need-sub-if3
 sub-if3 c = search needs
@@ -59,20 +70,39 @@ refuse-requires-3 c κs = search needs
 returns-3 : tie.Need-returns-3
 unfolding sinkWhere check
 returns-3 c =
-    let s = c .before .before .before .before .before .before .before .before .before .before .before .before .before .args in
-    rw (sym (c .before .before .before .before .before .before .before .before .find-cells .ensures) ∙ c .before .before .before .before .before .before .at .given .1, sym (c .before .before .before .before .is-part-marked .ensures) ∙ c .before .before .before .if1 .left, le-leb (s .used + s .n) (length (s .tape .now)) (omega arith), lt-leb (s .shown + s .n) (length (s .output .now)) (omega arith)) (c .refuse3 .ensures)
+    let m = c .before .before .before .before in
+    let k = m .before .before in
+    let s = k .before .before .before .before .before .before .before .args in
+    rw (
+      ← (k .before .before .find-cells .ensures),
+      k .at .given .1,
+      ← (m .is-part-marked .ensures),
+      c .before .before .before .if1 .left,
+      le-leb (s .used + s .n) (length (s .tape .now)) (omega arith),
+      lt-leb (s .shown + s .n) (length (s .output .now)) (omega arith),
+    ) (c .refuse3 .ensures)
 
 store-tape-requires : tie.Need-store-tape-requires
 store-tape-requires c κs = search needs
 
 returns-4 : tie.Need-returns-4
-returns-4 c = rw (sym (c .before .before .before .before .find-cells .ensures) ∙ c .before .before .f .given .1) (c .refuse .ensures)
+returns-4 c = rw (← (c .before .before .before .before .find-cells .ensures), c .before .before .f .given .1) (c .refuse .ensures)
 
 returns-5 : tie.Need-returns-5
 unfolding sinkWhere check
 returns-5 c =
-    let s = c .before .before .before .before .before .before .before .before .before .before .before .before .before .args in
-    rw (sym (c .before .before .before .before .before .before .before .before .find-cells .ensures) ∙ c .before .before .before .before .before .before .at .given .1, sym (c .before .before .before .before .is-part-marked .ensures) ∙ c .before .before .before .if1 .left, le-leb (s .used + s .n) (length (s .tape .now)) (omega arith), le-leb (s .shown + s .n) (length (s .output .now)) (omega arith)) (c .store-tape .ensures)
+    let m = c .before .before .before .before in
+    let k = m .before .before in
+    let start = k .before .before .before .before .before .before .before in
+    let s = start .args in
+    rw (
+      ← (k .before .before .find-cells .ensures),
+      k .at .given .1,
+      ← (m .is-part-marked .ensures),
+      c .before .before .before .if1 .left,
+      le-leb (s .used + s .n) (length (s .tape .now)) (omega (arith, start .pre .1 .1 .0)),
+      le-leb (s .shown + s .n) (length (s .output .now)) (omega arith),
+    ) (c .store-tape .ensures)
 
 pub store-tape-spec : {M : Type 1} → statement M
 store-tape-spec =

@@ -23,12 +23,12 @@ slice-aggregate-rank-of c = sym (length-take-le _ _ (c .before .before .before .
 rank-of-requires : tie.Need-rank-of-requires
 rank-of-requires c κs = search needs
 
-slice-aggregate-rank-of-2 : tie.Need-slice-aggregate-rank-of-2
-slice-aggregate-rank-of-2 c = sym (length-take-le _ _ (c .before .before .before .before .before .pre .0 .within))
-
 add-rank-of : tie.Need-add-rank-of
 unfolding wordEnd
 add-rank-of c = omega arith
+
+slice-aggregate-rank-of-2 : tie.Need-slice-aggregate-rank-of-2
+slice-aggregate-rank-of-2 c = sym (length-take-le _ _ (c .before .before .before .before .before .pre .0 .within))
 
 rank-of-requires-2 : tie.Need-rank-of-requires-2
 rank-of-requires-2 c κs = search needs
@@ -63,4 +63,15 @@ returns-2 c =
 pub has-capacity-spec : {M : Type 1} → statement M
 has-capacity-spec =
     tie.close
-    (tie.spec sub-if1 returns slice-aggregate-rank-of rank-of-requires slice-aggregate-rank-of-2 add-rank-of rank-of-requires-2 sub-result sub-result-2 sub-result-3 returns-2)
+    (tie.spec
+    sub-if1
+    returns
+    slice-aggregate-rank-of
+    rank-of-requires
+    add-rank-of
+    slice-aggregate-rank-of-2
+    rank-of-requires-2
+    sub-result
+    sub-result-2
+    sub-result-3
+    returns-2)

@@ -1,6 +1,7 @@
 -- `hardware::cells::make_room` meets its contract: two ranks tell how many cells are new, and so how far what lies behind them moves.
 use Prim.Native.Nat.{ℕ, _+_, _-_}
 use mathlib.Core.Path.{_≡_, sym, ap, _∙_}
+use mathlib.Core.Bool.{Bool}
 use mathlib.Core.List.{List}
 use native.Mathlib.Omega.{arith}
 use lib.ListN.{take}
@@ -13,15 +14,15 @@ use borrow.Author.Needs.{needs}
 use Rattle.hardware.proofs.cells.make_room.Statement.{statement}
 use Rattle.hardware.proofs.cells.make_room.Tie as tie
 
+add-rank-of : tie.Need-add-rank-of
+unfolding wordEnd
+add-rank-of c = omega arith
+
 slice-reshare-prefix-rank-of : tie.Need-slice-reshare-prefix-rank-of
 slice-reshare-prefix-rank-of c = search needs
 
 slice-aggregate-rank-of : tie.Need-slice-aggregate-rank-of
 slice-aggregate-rank-of c = sym (length-take-le _ _ (c .before .before .before .before .pre .0 .addresses .within))
-
-add-rank-of : tie.Need-add-rank-of
-unfolding wordEnd
-add-rank-of c = omega arith
 
 rank-of-requires : tie.Need-rank-of-requires
 rank-of-requires c κs = search needs
@@ -42,15 +43,26 @@ module _ (c : tie.After-rank-of) where
       (o .1 .0) (c .rank-of .ensures) (o .1 .1 .1)
 
   -- what moves up by the new cells moves behind the room
-  behind : (bs : List ℕ)
-      → moved (entry .args .count) (c .rank-of .result) (c .rank-of .result + (entry .args .n - (c .rank-of .result - entry .args .low))) bs
-      ≡ moved (entry .args .count) high (entry .args .low + entry .args .n) bs
+
+  abbrev shifted : List ℕ → List ℕ
+  shifted = moved (entry .args .count) (c .rank-of .result) (c .rank-of .result + (entry .args .n - (c .rank-of .result - entry .args .low)))
+
+  abbrev opened : List ℕ → List ℕ
+  opened = moved (entry .args .count) high (entry .args .low + entry .args .n)
+
+  behind : (bs : List ℕ) → shifted bs ≡ opened bs
   behind bs =
       let a = entry .args in
       let r = found in
       let h = c .rank-of .result in
       let e : h + (a .n - (h - a .low)) ≡ a .low + a .n = omega arith in
       ap (λ (to : ℕ). moved (a .count) h to bs) e ∙ ap (λ (from : ℕ). moved (a .count) from (a .low + a .n) bs) (c .rank-of .ensures)
+
+  moved-behind : (bs bs′ : List ℕ) → bs′ ≡ shifted bs → bs′ ≡ opened bs
+  moved-behind bs bs′ m = m ∙ behind bs
+
+  marks-behind : (guarded : Bool) (bs bs′ : List ℕ) → bs′ ≡ choose guarded (shifted bs) bs → bs′ ≡ choose guarded (opened bs) bs
+  marks-behind guarded bs bs′ m = m ∙ ap (λ (z : List ℕ). choose guarded z bs) (behind bs)
 
 sub-new : tie.Need-sub-new
 sub-new c = found c .rises
@@ -113,11 +125,11 @@ returns c =
     let w = c .before .before .number-cells in (
       omega arith,
       (
-        room-numbered (a .count) (a .low) (high f) (a .n) (a .low + a .n - a .low) (a .start) (a .addresses .now) (u .last .1 .1 .1) (w .last .1)
-            e (omega arith) (omega arith) (omega arith) (u .ensures ∙ behind f (a .addresses .now)) (w .ensures),
+        room-numbered (a .count) (a .low) (high f) (a .n) (a .low + a .n - a .low) (a .start) (a .addresses .now) (u .last .1 .1 .1 .0) (w .last .1 .0)
+            e (omega arith) (omega arith) (omega arith) (moved-behind f (a .addresses .now) _ (u .ensures)) (w .ensures),
         (
-          m .0 ∙ behind f (a .numbers .now),
-          m .1 ∙ ap (λ (z : List ℕ). choose (a .guarded) z (a .marks .now)) (behind f (a .marks .now)),
+          moved-behind f (a .numbers .now) _ (m .0),
+          marks-behind f (a .guarded) (a .marks .now) _ (m .1),
         ),
       ),
     )
@@ -126,9 +138,9 @@ pub make-room-spec : {M : Type 1} → statement M
 make-room-spec =
     tie.close
     (tie.spec
+    add-rank-of
     slice-reshare-prefix-rank-of
     slice-aggregate-rank-of
-    add-rank-of
     rank-of-requires
     sub-new
     sub-new-2

@@ -16,18 +16,18 @@ all-left c = rest-all (c .pre)
 
 left-1 : (c : tie.After-slice-known2)
     → let a = c .before .before .before .before .before .args in
-    Rest (fields (a .steps) (a .pc) (a .clk)) (now (a .buffer)) (a .at) (spaced (a .pc) ++ (spaced (a .clk) ++ spaced (kilosteps (a .clk)))) (c .before .before .put-field .last .0) (c .before .before .put-field .result)
+    Rest (fields (a .steps) (a .pc) (a .clk)) (now (a .buffer)) (a .at) (spaced (a .pc) ++ (spaced (a .clk) ++ spaced (kilosteps (a .clk)))) (c .before .before .put-field .last .1 .1 .0) (c .before .before .put-field .result)
 unfolding fields
 left-1 c = rest-after (spaced (c .before .before .before .before .before .args .steps)) _ (all-left (c .before .before .before .before .before)) (c .before .before .put-field .ensures)
 
 left-2 : (c : tie.After-slice-known3)
     → let a = c .before .before .before .before .before .before .before .before .before .args in
-    Rest (fields (a .steps) (a .pc) (a .clk)) (now (a .buffer)) (a .at) (spaced (a .clk) ++ spaced (kilosteps (a .clk))) (c .before .before .put-field2 .last .0) (c .before .before .put-field2 .result)
+    Rest (fields (a .steps) (a .pc) (a .clk)) (now (a .buffer)) (a .at) (spaced (a .clk) ++ spaced (kilosteps (a .clk))) (c .before .before .put-field2 .last .1 .1 .0) (c .before .before .put-field2 .result)
 left-2 c = rest-after (spaced (c .before .before .before .before .before .before .before .before .before .args .pc)) _ (left-1 (c .before .before .before .before)) (c .before .before .put-field2 .ensures)
 
 left-3 : (c : tie.After-slice-known4)
     → let a = c .before .before .before .before .before .before .before .before .before .before .before .before .before .args in
-    Rest (fields (a .steps) (a .pc) (a .clk)) (now (a .buffer)) (a .at) (spaced (kilosteps (a .clk))) (c .before .before .put-field3 .last .0) (c .before .before .put-field3 .result)
+    Rest (fields (a .steps) (a .pc) (a .clk)) (now (a .buffer)) (a .at) (spaced (kilosteps (a .clk))) (c .before .before .put-field3 .last .1 .1 .0) (c .before .before .put-field3 .result)
 left-3 c = rest-after (spaced (c .before .before .before .before .before .before .before .before .before .before .before .before .before .args .clk)) _ (left-2 (c .before .before .before .before)) (c .before .before .put-field3 .ensures)
 
 put-field-requires : tie.Need-put-field-requires
@@ -44,13 +44,13 @@ kilosteps-requires : tie.Need-kilosteps-requires
 kilosteps-requires c κs = search needs
 
 put-field-requires-4 : tie.Need-put-field-requires-4
-put-field-requires-4 c κs = rw (c .kilosteps .ensures) (left-3 (c .before .before) .fits)
+put-field-requires-4 c κs = rw (c .before .kilosteps .ensures) (left-3 (c .before .before) .fits)
 
 same-length : tie.Need-same-length
 same-length c = search needs
 
 returns : tie.Need-returns
-returns c = left-3 (c .before .before .before .before .before) .whole (rw (c .before .before .before .kilosteps .ensures) at (c .before .before .put-field4 .ensures))
+returns c = left-3 (c .before .before .before .before .before) .whole (rw (c .before .before .before .before .kilosteps .ensures) at (c .before .before .put-field4 .ensures))
 
 pub put-fields-spec : {M : Type 1} → statement M
 put-fields-spec =

@@ -15,18 +15,18 @@ all-left c = rest-all (omega (arith, c .pre))
 
 left-1 : (c : tie.After-slice-known2)
     → let a = c .before .before .before .before .before .args in
-    Rest (firstLine (a .label) (a .steps) (a .pc) (a .clk)) (now (a .buffer)) 0 (fields (a .steps) (a .pc) (a .clk) ++ (frameField (a .label) ++ (10 ∷ []))) (c .before .before .put-label .last .0) (c .before .before .put-label .result)
+    Rest (firstLine (a .label) (a .steps) (a .pc) (a .clk)) (now (a .buffer)) 0 (fields (a .steps) (a .pc) (a .clk) ++ (frameField (a .label) ++ (10 ∷ []))) (c .before .before .put-label .last .1 .0) (c .before .before .put-label .result)
 unfolding firstLine
 left-1 c = rest-after (labelText (c .before .before .before .before .before .args .label)) _ (all-left (c .before .before .before .before .before)) (c .before .before .put-label .ensures)
 
 left-2 : (c : tie.After-slice-known3)
     → let a = c .before .before .before .before .before .before .before .before .before .args in
-    Rest (firstLine (a .label) (a .steps) (a .pc) (a .clk)) (now (a .buffer)) 0 (frameField (a .label) ++ (10 ∷ [])) (c .before .before .put-fields .last .0) (c .before .before .put-fields .result)
+    Rest (firstLine (a .label) (a .steps) (a .pc) (a .clk)) (now (a .buffer)) 0 (frameField (a .label) ++ (10 ∷ [])) (c .before .before .put-fields .last .1 .1 .1 .1 .0) (c .before .before .put-fields .result)
 left-2 c = let a = c .before .before .before .before .before .before .before .before .before .args in rest-after (fields (a .steps) (a .pc) (a .clk)) _ (left-1 (c .before .before .before .before)) (c .before .before .put-fields .ensures)
 
 left-3 : (c : tie.After-slice-known4)
     → let a = c .before .before .before .before .before .before .before .before .before .before .before .before .before .args in
-    Rest (firstLine (a .label) (a .steps) (a .pc) (a .clk)) (now (a .buffer)) 0 (10 ∷ []) (c .before .before .put-frame .last .0) (c .before .before .put-frame .result)
+    Rest (firstLine (a .label) (a .steps) (a .pc) (a .clk)) (now (a .buffer)) 0 (10 ∷ []) (c .before .before .put-frame .last .1 .1 .0) (c .before .before .put-frame .result)
 left-3 c = rest-after (frameField (c .before .before .before .before .before .before .before .before .before .before .before .before .before .args .label)) _ (left-2 (c .before .before .before .before)) (c .before .before .put-frame .ensures)
 
 put-label-requires : tie.Need-put-label-requires
@@ -48,7 +48,7 @@ add-result c = omega (arith, left-3 c .fits)
 returns : tie.Need-returns
 returns c =
     let p = c .before .before .put-frame in
-    left-3 c .whole (placed-one (p .last .0) (p .result) 10 (omega (arith, left-3 c .fits)))
+    left-3 c .whole (placed-one (p .last .1 .1 .0) (p .result) 10 (omega (arith, left-3 c .fits)))
 
 same-length : tie.Need-same-length
 same-length c = placed-length (omega (arith, c .before .before .before .before .before .before .before .before .before .before .before .before .before .pre)) (returns c)

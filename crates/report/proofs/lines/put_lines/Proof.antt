@@ -61,7 +61,7 @@ module _ (c : tie.After-slice-known2) where
       let values = sym (c .before .before .before .before .before .values-fit .ensures) ∙ not-false _ (c .before .before .before .before .if2 .left) in
       omega (arith, both entry, leb-true (length (others entry)) (length (buffer entry) - c .before .before .before .before .before .before .before .first-line-length .result) values)
 
-  left : Rest (first entry ++ others entry) (buffer entry) 0 (others entry) (c .before .before .put-first-line .last .0) (c .before .before .put-first-line .result)
+  left : Rest (first entry ++ others entry) (buffer entry) 0 (others entry) (c .before .before .put-first-line .last .1 .1 .1 .1 .0) (c .before .before .put-first-line .result)
   left = rest-after (first entry) (others entry) (rest-all fits) (c .before .before .put-first-line .ensures)
 
 put-values-requires : tie.Need-put-values-requires

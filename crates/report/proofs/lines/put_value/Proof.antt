@@ -15,7 +15,7 @@ put-hex-requires c κs = omega (arith, length-append (shortestHex (c .before .be
 
 left : (c : tie.After-slice-known2)
     → let a = c .before .before .before .before .before .args in
-    Rest (valueLine (a .v)) (now (a .buffer)) (a .at) (10 ∷ []) (c .before .before .put-hex .last .0) (c .before .before .put-hex .result)
+    Rest (valueLine (a .v)) (now (a .buffer)) (a .at) (10 ∷ []) (c .before .before .put-hex .last .1 .1 .0) (c .before .before .put-hex .result)
 left c = rest-after (shortestHex (c .before .before .before .before .before .args .v)) (10 ∷ []) (rest-all (c .before .before .before .before .before .pre)) (c .before .before .put-hex .ensures)
 
 slice-write-buffer : tie.Need-slice-write-buffer
@@ -30,7 +30,7 @@ same-length c = search needs
 returns : tie.Need-returns
 returns c =
     let p = c .before .before .put-hex in
-    left c .whole (placed-one (p .last .0) (p .result) 10 (omega (arith, left c .fits)))
+    left c .whole (placed-one (p .last .1 .1 .0) (p .result) 10 (omega (arith, left c .fits)))
 
 pub put-value-spec : {M : Type 1} → statement M
 put-value-spec = tie.close (tie.spec put-hex-requires slice-write-buffer add-result same-length returns)

@@ -1,0 +1,3 @@
+-- The tables of cases hold.
+pub mod Unfolding
+pub mod AllCases

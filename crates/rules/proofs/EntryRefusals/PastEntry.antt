@@ -1,0 +1,223 @@
+-- Refusals 1, 2 and 3 are the entry's alone: no step is refused with one of them, and so no run is.
+use Prim.Native.Nat.{ℕ, zero, suc, _-_}
+use mathlib.Core.Path.{_≡_, refl}
+use mathlib.Core.Bool.{Bool, true, false}
+use mathlib.Core.List.{List, [], _∷_}
+use lib.Dec.{ltb, eqb}
+use Rattle.rules.specs.declared.OlaOperand.{OlaOperand}
+use Rattle.rules.specs.declared.OlaOperand.the-variants.{Absent, Immediate, Register, RegisterWithOffset, RegisterWithFactor, Psp, Pc}
+use Rattle.rules.specs.declared.Instruction.{Instruction}
+use Rattle.rules.specs.declared.Refusal.{Refusal}
+use Rattle.rules.specs.declared.Refusal.the-variants.{NoInstruction}
+use Rattle.rules.specs.declared.Answer.{Answer}
+use Rattle.rules.specs.Numbers.{clockEnd}
+use Rattle.rules.specs.Results.{Result, GuardedResult}
+use Rattle.rules.specs.Field.{fieldAdd, fieldMul}
+use Rattle.rules.specs.Memory.{Slot, absent, present, Memory}
+use Rattle.rules.specs.Opcodes.{Class, addition, multiplication, equality, small, complement, move, assert, rangeCheck, jump, conditionalJump, call, return, load, store, tapeLoad, tapeStore, contractCall, end, uncovered}
+use Rattle.rules.specs.Operands.{binaryLength, instructionAt, fetch, Want, ignored, lacking, value, later, register, target, inField, valueOf, targetOf, absence, operand, Operands, operands}
+use Rattle.rules.specs.Step.{Environment, State, Next, Finish, goesOn, ends, calls, delegates, Ran, onClock, onFinish, r9, slotValue, read, readBelow, readMany, readSpan, storeMany, operate, capacity, step, onStep, run}
+use Rattle.rules.specs.Guarded.{MarkState, GuardedState, GuardedNext, guardedRest, guardedStep, onGuardedStep, guardedRun}
+use Rattle.rules.specs.Answers.{Meaning, outcome, refusal, refusalMeaning, meaning}
+use Rattle.rules.proofs.EntryRefusals.Refusing.{Refusing, refusing-refused, passed, RefusingGuarded, refused-guarded, sink-guarded, passed-guarded, refusing-require, refusing-choose, refusing-bind, refusing-after, refusing-guard}
+
+-- an outcome, or a refusal above 3
+abbrev pub isPastEntry : Meaning → Bool
+isPastEntry (outcome n vs) = true
+isPastEntry (refusal n vs) = ltb 3 n
+
+abbrev AtStep : Refusal → Type 0
+AtStep f = isPastEntry (refusalMeaning f) ≡ true
+
+abbrev Past : Answer → Type 0
+Past a = isPastEntry (meaning a) ≡ true
+
+-- Fetch
+
+found : (is : List Instruction) (pc : ℕ) → Refusing AtStep (instructionAt is pc)
+unfolding instructionAt refusalMeaning
+found [] pc = refusing-refused refl
+found (i ∷ is) pc = refusing-choose (eqb pc 0) passed (refusing-choose (ltb pc (binaryLength i)) (refusing-refused {f = NoInstruction} refl) (found is (pc - binaryLength i)))
+
+fetched : (is : List Instruction) (pc : ℕ) → Refusing AtStep (fetch is pc)
+unfolding fetch refusalMeaning
+fetched is pc = refusing-bind _ (found is pc) λ i. refusing-require _ _ refl passed
+
+-- Operands
+
+in-field : (f : ℕ → ℕ → ℕ) (a b : ℕ) → Refusing AtStep (inField f a b)
+unfolding refusalMeaning
+in-field f a b = refusing-require _ _ refl (refusing-require _ _ refl passed)
+
+valued : (psp : ℕ) (registers : List ℕ) (o : OlaOperand) → Refusing AtStep (valueOf psp registers o)
+unfolding valueOf refusalMeaning
+valued psp registers Absent = refusing-refused refl
+valued psp registers (Immediate w) = passed
+valued psp registers (Register r) = passed
+valued psp registers (RegisterWithOffset r w) = in-field fieldAdd _ _
+valued psp registers (RegisterWithFactor r w) = in-field fieldMul _ _
+valued psp registers Psp = passed
+valued psp registers Pc = refusing-refused refl
+
+targeted : (o : OlaOperand) → Refusing AtStep (targetOf o)
+unfolding refusalMeaning
+targeted Absent = refusing-refused refl
+targeted (Immediate w) = refusing-refused refl
+targeted (Register r) = passed
+targeted (RegisterWithOffset r w) = refusing-refused refl
+targeted (RegisterWithFactor r w) = refusing-refused refl
+targeted Psp = refusing-refused refl
+targeted Pc = refusing-refused refl
+
+lacked : (o : OlaOperand) → Refusing AtStep (absence o)
+unfolding refusalMeaning
+lacked Absent = passed
+lacked (Immediate w) = refusing-refused refl
+lacked (Register r) = refusing-refused refl
+lacked (RegisterWithOffset r w) = refusing-refused refl
+lacked (RegisterWithFactor r w) = refusing-refused refl
+lacked Psp = refusing-refused refl
+lacked Pc = refusing-refused refl
+
+operand-read : (psp : ℕ) (registers : List ℕ) (w : Want) (o : OlaOperand) → Refusing AtStep (operand psp registers w o)
+unfolding operand
+operand-read psp registers ignored o = passed
+operand-read psp registers lacking o = lacked o
+operand-read psp registers value o = valued psp registers o
+operand-read psp registers later o = passed
+operand-read psp registers register o = refusing-bind _ (targeted o) λ r. passed
+operand-read psp registers target o = targeted o
+
+operands-read : (psp : ℕ) (registers : List ℕ) (c : Class) (i : Instruction) → Refusing AtStep (operands psp registers c i)
+unfolding operands
+operands-read psp registers c i =
+    refusing-bind _ (operand-read psp registers _ _) λ a.
+    refusing-bind _ (operand-read psp registers _ _) λ b.
+    refusing-bind _ (operand-read psp registers _ _) λ d.
+    passed
+
+module _ (numberMemory markMemory : Memory ℕ) where
+  open Memory numberMemory using (Mem, get)
+
+  -- Reading and storing
+
+  slot-read : (s : Slot ℕ) → Refusing AtStep (slotValue numberMemory s)
+  unfolding refusalMeaning
+  slot-read absent = refusing-refused refl
+  slot-read (present v) = passed
+
+  cell-read : (c : Mem) (a : ℕ) → Refusing AtStep (read numberMemory c a)
+  cell-read c a = slot-read (get c a)
+
+  below-read : (c : Mem) (r k : ℕ) → Refusing AtStep (readBelow numberMemory c r k)
+  unfolding refusalMeaning
+  below-read c r k = refusing-require _ _ refl (cell-read c (r - k))
+
+  many-read : (c : Mem) (a n : ℕ) → Refusing AtStep (readMany numberMemory c a n)
+  unfolding readMany
+  many-read c a zero = passed
+  many-read c a (suc n) = refusing-bind _ (cell-read c a) λ v. refusing-bind _ (many-read c (suc a) n) λ vs. passed
+
+  span-read : (c : Mem) (a n : ℕ) → Refusing AtStep (readSpan numberMemory c a n)
+  unfolding readSpan refusalMeaning
+  span-read c a n = refusing-require _ _ refl (refusing-require _ _ refl (many-read c a n))
+
+  many-stored : (c : Mem) (a : ℕ) (vs : List ℕ) → Refusing AtStep (storeMany numberMemory c a vs)
+  unfolding storeMany refusalMeaning
+  many-stored c a [] = passed
+  many-stored c a (v ∷ vs) =
+      refusing-require _ _ refl (refusing-require _ _ refl (refusing-require _ _ refl (many-stored _ (suc a) vs)))
+
+  -- The operation
+
+  module _ (e : Environment) where
+    operated : (c : Class) (i : Instruction) (s : State numberMemory) (o : Operands) → Refusing AtStep (operate numberMemory e c i s o)
+    unfolding operate refusalMeaning
+    operated addition i s o = refusing-require _ _ refl (refusing-require _ _ refl passed)
+    operated multiplication i s o = refusing-require _ _ refl (refusing-require _ _ refl passed)
+    operated (equality f) i s o = passed
+    operated (small f) i s o = refusing-require _ _ refl (refusing-require _ _ refl passed)
+    operated complement i s o = refusing-require _ _ refl passed
+    operated move i s o = passed
+    operated assert i s o = refusing-require _ _ refl passed
+    operated rangeCheck i s o = refusing-require _ _ refl passed
+    operated jump i s o = passed
+    operated conditionalJump i s o = refusing-require _ _ refl (refusing-bind _ (valued _ _ _) λ b. passed)
+    operated call i s o = refusing-require _ _ refl (refusing-bind _ (many-stored _ _ _) λ c. passed)
+    operated return i s o =
+        refusing-bind _ (below-read (s .cells) (r9 numberMemory s) 1) λ pc. refusing-bind _ (below-read (s .cells) (r9 numberMemory s) 2) λ r. passed
+    operated load i s o = refusing-require _ _ refl (refusing-require _ _ refl (refusing-bind _ (cell-read (s .cells) (fieldAdd (o .op0) (o .op1))) λ v. passed))
+    operated store i s o = refusing-require _ _ refl (refusing-require _ _ refl (refusing-bind _ (many-stored _ _ _) λ c. passed))
+    operated tapeLoad i s o = refusing-require _ _ refl (refusing-require _ _ refl (refusing-bind _ (many-stored _ _ _) λ c. passed))
+    operated tapeStore i s o = refusing-bind _ (span-read _ _ _) λ vs. passed
+    operated contractCall i s o = refusing-bind _ (span-read _ _ 4) λ vs. passed
+    operated end i s o = passed
+    operated uncovered i s o = refusing-refused refl
+
+    fitted : (n : Next numberMemory) → Refusing AtStep (capacity numberMemory e n)
+    unfolding refusalMeaning
+    fitted n = refusing-require _ _ refl passed
+
+    -- Steps
+
+    stepped : (s : State numberMemory) → Refusing AtStep (step numberMemory e s)
+    unfolding step
+    stepped s =
+        refusing-bind _ (fetched _ _) λ i.
+        refusing-bind _ (operands-read _ _ _ i) λ o.
+        refusing-bind _ (operated _ i s o) λ n.
+        fitted n
+
+    guarded-rest : (t : MarkState markMemory) (c : Class) (i : Instruction) (s : State numberMemory) (o : Operands) → RefusingGuarded AtStep (guardedRest numberMemory markMemory e t c i s o)
+    unfolding guardedRest
+    guarded-rest t c i s o =
+        refusing-after _ (operated c i s o) λ n.
+        refusing-guard _ (refusing-after _ (fitted n) λ n. passed-guarded)
+
+    guarded-stepped : (q : GuardedState numberMemory markMemory) → RefusingGuarded AtStep (guardedStep numberMemory markMemory e q)
+    unfolding guardedStep
+    guarded-stepped q =
+        refusing-after _ (fetched _ _) λ i.
+        refusing-after _ (operands-read _ _ _ i) λ o.
+        refusing-guard _ (guarded-rest _ _ i _ o)
+
+-- Runs
+
+module _ {S : Type 0} where
+  clock-past : (b : Bool) (s : S) (r : Ran S) → Past (r .answer) → Past (onClock b s r .answer)
+  unfolding meaning refusalMeaning
+  clock-past true s r h = h
+  clock-past false s r h = refl
+
+  finish-past : (f : Finish) (clk : ℕ) (s : S) (k : S → Ran S) → Past (k s .answer) → Past (onFinish f clk s k .answer)
+  unfolding meaning
+  finish-past goesOn clk s k h = clock-past (ltb clk clockEnd) s (k s) h
+  finish-past ends clk s k h = refl
+  finish-past (calls vs) clk s k h = refl
+  finish-past (delegates vs) clk s k h = refl
+
+module _ (numberMemory markMemory : Memory ℕ) (e : Environment) where
+  on-step-past : (s : State numberMemory) {r : Result (Next numberMemory)} (k : State numberMemory → Ran (State numberMemory)) → Refusing AtStep r
+      → ((t : State numberMemory) → Past (k t .answer)) → Past (onStep numberMemory s r k .answer)
+  unfolding meaning
+  on-step-past s k (refusing-refused h) q = h
+  on-step-past s k (passed {a = n}) q = finish-past (n .finish) (n .state .clk) (n .state) k (q (n .state))
+
+  pub run-past : (budget : ℕ) (s : State numberMemory) → Past (run numberMemory e budget s .answer)
+  unfolding run meaning
+  run-past zero s = refl
+  run-past (suc budget) s = on-step-past s (run numberMemory e budget) (stepped numberMemory markMemory e s) (run-past budget)
+
+  on-guarded-step-past : (q : GuardedState numberMemory markMemory) {r : GuardedResult (GuardedNext numberMemory markMemory)} (k : GuardedState numberMemory markMemory → Ran (GuardedState numberMemory markMemory)) → RefusingGuarded AtStep r
+      → ((t : GuardedState numberMemory markMemory) → Past (k t .answer)) → Past (onGuardedStep numberMemory markMemory q r k .answer)
+  unfolding meaning
+  on-guarded-step-past q k (refused-guarded h) z = h
+  on-guarded-step-past q k sink-guarded z = refl
+  on-guarded-step-past q k (passed-guarded {a = n}) z =
+      let left : GuardedState numberMemory markMemory = record { plain = n .next .state; marks = n .marks } in
+      finish-past (n .next .finish) (n .next .state .clk) left k (z left)
+
+  pub guarded-run-past : (budget : ℕ) (q : GuardedState numberMemory markMemory) → Past (guardedRun numberMemory markMemory e budget q .answer)
+  unfolding guardedRun meaning
+  guarded-run-past zero q = refl
+  guarded-run-past (suc budget) q = on-guarded-step-past q (guardedRun numberMemory markMemory e budget) (guarded-stepped numberMemory markMemory e q) (guarded-run-past budget)

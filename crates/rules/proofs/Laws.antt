@@ -1,0 +1,12 @@
+-- Laws of tests, results, answers, memory, buffers and entries.
+pub mod Computed
+pub mod BoolLaws
+pub mod ResultLaws
+pub mod AnswerLaws
+pub mod CellLaws
+pub mod OverlayLaws
+pub mod EntryLaws
+pub mod FirstWords
+pub mod DecodedRegisters
+pub mod Relational
+pub mod Passing

@@ -1,0 +1,3 @@
+-- The rules over a plain map.
+pub mod PlainMapAgreement
+pub mod GuardedMapAgreement

@@ -1,0 +1,4 @@
+-- Marks and sinks are document 01's.
+pub mod WrittenPlaces
+pub mod MarksFollow
+pub mod SinksExact

@@ -1,0 +1,10 @@
+-- Demand 3.
+pub mod AlikeStates
+pub mod AlikeSteps
+pub mod AlikeRuns
+pub mod AlikeSnapshots
+pub mod GuardedBesidePlain
+pub mod SinkRuns
+pub mod CleanRuns
+pub mod NonInterferenceHolds
+pub mod WitnessesHold

@@ -1,0 +1,4 @@
+-- States stay sound.
+pub mod PlainSoundness
+pub mod GuardedSoundness
+pub mod EntrySoundness
