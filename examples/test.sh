@@ -1,6 +1,6 @@
 #!/usr/bin/env bash
-# Builds and runs both examples, and holds what they print to expected.txt; then every call of the header, as C and as C++; then the version,
-# which is one number in three places. Needs cc, c++ and cargo.
+# Builds and runs both examples, and holds what they print to expected.txt; then every call of the header, as C and as C++; then the
+# version, which is one number in three places. Needs cc, c++ and cargo.
 set -euo pipefail
 cd "$(dirname "$0")"
 for language in c rust; do
@@ -9,7 +9,8 @@ for language in c rust; do
 done
 
 for compiler in "cc -std=c99" "c++ -std=c++11 -x c++"; do
-    $compiler -Wall -Wextra -Wpedantic -Werror -O2 -I../include c/every_call.c -x none ../target/staticlib/libola.a -o ../target/examples/every_call
+    $compiler -Wall -Wextra -Wpedantic -Werror -O2 -I../include -o ../target/examples/every_call \
+        c/every_call.c -x none ../target/staticlib/libola.a
     ../target/examples/every_call
     echo "every call of include/ola.h, by ${compiler%% *}: with its buffers in one struct it does the same"
 done

@@ -7,10 +7,10 @@
  *     cc -Iinclude solve.c target/staticlib/libola.a
  *
  * The machine has ten registers, a memory, a tape and an output. A call runs a program for at most `budget` steps: it checks all that it is
- * handed, runs, writes what is left into the same places, and fills in an answer. What a paused call leaves can be handed in again and goes on.
- * The plain run executes a program. The guarded run also keeps marks on numbers that must stay secret, and stops where a marked number would
- * be used at a sink, that is where it would decide something that can be seen. conformance/RULES.md says what each instruction does, in which
- * order things are refused, and which uses are sinks.
+ * handed, runs, writes what is left into the same places, and fills in an answer. What a paused call leaves can be handed in again and goes
+ * on. The plain run executes a program. The guarded run also keeps marks on numbers that must stay secret, and stops where a marked number
+ * would be used at a sink, that is where it would decide something that can be seen. conformance/RULES.md says what each instruction does,
+ * in which order things are refused, and which uses are sinks.
  *
  * Example: a program as text, with its budget in the first line.
  *
@@ -38,8 +38,8 @@
 extern "C" {
 #endif
 
-/* The version of the records below, and of the rules and the format in conformance/: one number, which conformance/VERSION has too. It rises
- * whenever a record, a rule or the format changes. */
+/* The version of the records below, and of the rules and the format in conformance/: one number, which conformance/VERSION has too. It
+ * rises whenever a record, a rule or the format changes. */
 #define OLA_VERSION 3
 
 /* Limits. More is refused: OLA_BAD_LENGTH for a program, OLA_BAD_STATE for a state. */
@@ -167,8 +167,8 @@ void ola_guarded_step_words(const uint64_t *words, size_t words_length, ola_mach
                             uint64_t *marks, size_t marks_capacity, uint64_t *tape, size_t tape_capacity,
                             uint64_t *output, size_t output_capacity, ola_answer *answer);
 
-/* The entry check alone: what a run would be refused with before its first step (1, 2 or 3), or OLA_PAUSED after 0 steps where it would begin.
- * Nothing but the answer is written. */
+/* The entry check alone: what a run would be refused with before its first step (1, 2 or 3), or OLA_PAUSED after 0 steps where it would
+ * begin. Nothing but the answer is written. */
 void ola_check_words(const uint64_t *words, size_t words_length, const ola_machine *machine,
                      const uint64_t *addresses, size_t addresses_capacity,
                      const uint64_t *numbers, size_t numbers_capacity, const uint64_t *tape, size_t tape_capacity,

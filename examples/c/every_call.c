@@ -1,5 +1,5 @@
-/* Every call twice, by its own function and with its buffers in one struct: both must answer and leave the same. This is no example, but the
- * test of the header's inline functions. examples/test.sh compiles it as C and as C++. */
+/* Every call twice, by its own function and with its buffers in one struct: both must answer and leave the same. This is no example, but
+ * the test of the header's inline functions. examples/test.sh compiles it as C and as C++. */
 #include <stdio.h>
 #include <string.h>
 

@@ -1,4 +1,5 @@
-/* The step machine from C: a solve in one call, step by step, with a pause, refused, and with a secret. Prints what examples/expected.txt has. */
+/* The step machine from C: a solve in one call, step by step, with a pause, refused, and with a secret. Prints what examples/expected.txt
+ * has. */
 #include <inttypes.h>
 #include <stdio.h>
 #include <string.h>

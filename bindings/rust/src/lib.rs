@@ -287,8 +287,8 @@ pub fn guarded_check<B: AsRef<[u64]>>(
     }
 }
 
-/// All that a call is lent: the machine, the extras of guarded calls, and the buffers. The default is the start of `solve`, unmarked, in buffers
-/// of the greatest capacities.
+/// All that a call is lent: the machine, the extras of guarded calls, and the buffers. The default is the start of `solve`, unmarked, in
+/// buffers of the greatest capacities.
 #[derive(Debug, Clone, PartialEq, Eq, Default)]
 pub struct Lent {
     pub machine: Machine,

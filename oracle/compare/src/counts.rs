@@ -136,7 +136,10 @@ impl StepCounts {
         if missing.is_empty() {
             Ok(())
         } else {
-            Err(format!("never met: {}", missing.join("; ")))
+            Err(format!(
+                "nothing differs, but these were never met: {}",
+                missing.join("; ")
+            ))
         }
     }
 

@@ -202,7 +202,7 @@ impl Counts {
         let ends = self.ends.as_flattened().as_flattened();
         let several = [self.several_frames, self.budget_and_frames];
         if ends.contains(&0) || self.reasons.contains(&0) || several.contains(&0) {
-            Err("never met: what has the count 0 in the tables".to_string())
+            Err("nothing differs, but what has the count 0 in the tables was never met".to_string())
         } else {
             Ok(())
         }

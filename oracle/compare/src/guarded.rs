@@ -228,7 +228,10 @@ impl Counts {
         if missing.is_empty() {
             Ok(())
         } else {
-            Err(format!("never met: {}", missing.join("; ")))
+            Err(format!(
+                "nothing differs, but these were never met: {}",
+                missing.join("; ")
+            ))
         }
     }
 

@@ -90,7 +90,7 @@ fn compare(name: &str, arguments: &[String]) -> Result<(), String> {
         let options = Options::read(arguments, part.count)?;
         eprintln!("{}: begins", part.name);
         println!("\n### {}", part.name);
-        (part.compare)(&options)?;
+        (part.compare)(&options).map_err(|what| format!("{}: {what}", part.name))?;
         eprintln!("{}: nothing differs", part.name);
     }
     Ok(())

@@ -59,7 +59,9 @@ impl EdgeCounts {
                 for (relation, relation_name) in RELATIONS.into_iter().enumerate() {
                     let count = self.around[access as usize][end][relation];
                     if count == 0 && is_compared(access, end, relation) {
-                        missing.push(format!("{access_name} that {relation_name}: {end_name}"));
+                        missing.push(format!(
+                            "{access_name}, at the end of {end_name}: cells that {relation_name}"
+                        ));
                     }
                 }
             }
