@@ -43,7 +43,7 @@ pub enum Span {
 }
 
 // The place where an address stands if none is missing between the first and this one. Whether it stands there, the caller has to see.
-fn place_without_gaps(address: u64, used: &[u64]) -> usize {
+fn place_without_gaps(used: &[u64], address: u64) -> usize {
     if 0 < used.len() {
         let first = used[0];
         if first <= address {
@@ -55,7 +55,7 @@ fn place_without_gaps(address: u64, used: &[u64]) -> usize {
 
 // The last of the rising addresses that is at most another, by its place; 0 where none is. Seven comparisons, added up, tell its eighth: a
 // branch on one of them could not be predicted. Called at two places and too long to be compiled into a step, which would be slower for it.
-fn last_at_most(address: u64, used: &[u64]) -> usize
+fn last_at_most(used: &[u64], address: u64) -> usize
     requires { ⌜ risingFrom 0 (now used) ≡ true ⌝ }
     ensures { λ r. ⌜ r ≡ lastAtMost (now (used .entry)) address ⌝ }
 {
@@ -83,17 +83,17 @@ fn last_at_most(address: u64, used: &[u64]) -> usize
 }
 
 // How many of the rising addresses lie below an address. One that stands at its place without gaps needs no search.
-fn rank_of(address: u64, used: &[u64]) -> usize
+fn rank_of(used: &[u64], address: u64) -> usize
     requires { ⌜ risingFrom 0 (now used) ≡ true ⌝ }
     ensures { λ r. ⌜ r ≡ rank (now (used .entry)) address ⌝ }
 {
-    let near = place_without_gaps(address, used);
+    let near = place_without_gaps(used, address);
     if near < used.len() {
         if used[near] == address {
             return near;
         }
     }
-    let last = last_at_most(address, used);
+    let last = last_at_most(used, address);
     if last < used.len() {
         return last + (used[last] < address) as usize;
     }
@@ -105,7 +105,7 @@ fn search(count: usize, address: u64, addresses: &[u64]) -> Found
     requires { ⌜ Rising count (now addresses) ⌝ }
     ensures { λ r. ⌜ r ≡ foundOf (take count (now (addresses .entry))) address ⌝ }
 {
-    let last = last_at_most(address, &addresses[..count]);
+    let last = last_at_most(&addresses[..count], address);
     if last < count {
         if addresses[last] == address {
             return Found::At(last);
@@ -120,7 +120,7 @@ pub fn find(count: usize, address: u64, addresses: &[u64]) -> Found
     requires { ⌜ Rising count (now addresses) ⌝ }
     ensures { λ r. ⌜ r ≡ foundOf (take count (now (addresses .entry))) address ⌝ }
 {
-    let near = place_without_gaps(address, &addresses[..count]);
+    let near = place_without_gaps(&addresses[..count], address);
     if near < count {
         if addresses[near] == address {
             return Found::At(near);
@@ -210,7 +210,7 @@ pub fn find_span(count: usize, start: u64, n: u64, addresses: &[u64]) -> Span
     requires { ⌜ start + n < wordEnd ⌝ }
     ensures { λ r. ⌜ r ≡ spanOf (take count (now (addresses .entry))) start n ⌝ }
 {
-    let at = rank_of(start, &addresses[..count]);
+    let at = rank_of(&addresses[..count], start);
     if n == 0 {
         return Span::At(at);
     }
@@ -232,8 +232,8 @@ pub fn has_capacity(count: usize, start: u64, n: usize, addresses: &[u64]) -> bo
     if n <= addresses.len() - count {
         return true;
     }
-    let low = rank_of(start, &addresses[..count]);
-    let high = rank_of(start + n as u64, &addresses[..count]);
+    let low = rank_of(&addresses[..count], start);
+    let high = rank_of(&addresses[..count], start + n as u64);
     n - (high - low) <= addresses.len() - count
 }
 
@@ -411,7 +411,7 @@ fn make_room(
         ≡ choose guarded (moved count (rank (take count (now (addresses .entry))) (start + n)) (low + n) (now (marks .entry)))
         (now (marks .entry)) ⌝ }
 {
-    let high = rank_of(start + n as u64, &addresses[..count]);
+    let high = rank_of(&addresses[..count], start + n as u64);
     let new = n - (high - low);
     move_contents(guarded, count, high, new, numbers, marks);
     move_up(count, high, new, addresses);
@@ -444,7 +444,7 @@ pub fn store_many(
             count
         }
         Span::Absent => {
-            let low = rank_of(start, &addresses[..count]);
+            let low = rank_of(&addresses[..count], start);
             let used = make_room(
                 guarded,
                 count,

@@ -13,16 +13,16 @@ use Rattle.hardware.proofs.cells.last_at_most.Statement.{statement}
 use Rattle.hardware.proofs.cells.last_at_most.Tie as tie
 
 abbrev Inv-loop : tie.InvT-loop
-Inv-loop address used low₀ left₀ low left = (low ≤ lastAtMost used address) × (rank used (suc address) ≤ low + left) × (low + left ≤ length used)
+Inv-loop used address low₀ left₀ low left = (low ≤ lastAtMost used address) × (rank used (suc address) ≤ low + left) × (low + left ≤ length used)
 
 abbrev μ-loop : tie.MeasureT-loop
-μ-loop address used low₀ left₀ low left = left
+μ-loop used address low₀ left₀ low left = left
 
 abbrev Inv-loop2 : tie.InvT-loop2
-Inv-loop2 address used low left last₀ i₀ last i = (1 ≤ i) × (last ≡ min (rank used (suc address)) (low + i) - 1)
+Inv-loop2 used address low left last₀ i₀ last i = (1 ≤ i) × (last ≡ min (rank used (suc address)) (low + i) - 1)
 
 abbrev μ-loop2 : tie.MeasureT-loop2
-μ-loop2 address used low left last₀ i₀ last i = left - i
+μ-loop2 used address low left last₀ i₀ last i = left - i
 
 loop-holds : tie.Need-loop-holds Inv-loop μ-loop Inv-loop2 μ-loop2
 loop-holds c = omega (arith, rank-length (c .args .used .now) (suc (c .args .address)))
@@ -156,7 +156,7 @@ add-passed-13 c = omega (arith, counted (c .before .before .before .before .befo
 round : (c : tie.In-loop Inv-loop μ-loop Inv-loop2 μ-loop2)
     → let s = c .before .before .args in
     let l = c .before .loop in
-    Inv-loop (s .address) (s .used .now) 0 (length (s .used .now)) (l .low + passed (s .used .now) (s .address) (l .low) (l .left / 8) 6 * (l .left / 8)) (l .left - 7 * (l .left / 8))
+    Inv-loop (s .used .now) (s .address) 0 (length (s .used .now)) (l .low + passed (s .used .now) (s .address) (l .low) (l .left / 8) 6 * (l .left / 8)) (l .left - 7 * (l .left / 8))
 round c =
     let s = c .before .before in
     let l = c .before .loop in
