@@ -1,32 +1,33 @@
 // The standard input, read in pieces into a buffer that is longer than any line.
-use crate::fields::SIZE;
-use crate::fields::find;
 use crate::lines::play_line;
-use crate::text::TEXT_SIZE;
+use case_fields::numbers::find;
+use case_fields::parts::Fields;
 use libc::STDIN_FILENO;
 ghost use Prim.Native.Nat.{_≤_};
 ghost use lib.ListN.{length};
 ghost use Rattle.io.specs.Counts.{Counts};
 
-// Plays the whole input. What was read of a line that goes on stands at the buffer's start. Nothing says that an input ends, so that the
-// number of pieces has a limit.
-pub(crate) fn play(buffer: &mut [u8], fields: &mut [u64; SIZE], text: &mut [u8; TEXT_SIZE]) {
+// Nothing says that an input ends, so that the number of pieces has a limit.
+const PIECE_LIMIT: u64 = 10_000;
+
+// Plays the whole input. What was read of a line that goes on stands at the buffer's start.
+pub(crate) fn play(text: &mut [u8], fields: &mut Fields, buffer: &mut [u8]) {
     let mut rest = 0;
-    let mut pieces: u64 = 10_000;
+    let mut pieces = PIECE_LIMIT;
     while 0 < pieces {
-        let end = read_after(buffer, rest);
+        let end = read_after(rest, buffer);
         if end == rest {
-            play_line(&buffer[..end], fields, text);
+            play_line(&buffer[..end], text, fields);
             return;
         }
-        let played = play_lines(&buffer[..end], fields, text);
-        rest = keep_rest(buffer, played, end);
+        let played = play_lines(&buffer[..end], text, fields);
+        rest = keep_rest(played, end, buffer);
         pieces -= 1;
     }
 }
 
 // Reads into the buffer from a place on, and answers the place after what was read.
-fn read_after(buffer: &mut [u8], at: usize) -> usize
+fn read_after(at: usize, buffer: &mut [u8]) -> usize
     requires { ⌜ at ≤ length (now buffer) ⌝ }
     ensures { λ r. ⌜ Counts r (now (buffer .exit)) ⌝ }
 {
@@ -35,7 +36,7 @@ fn read_after(buffer: &mut [u8], at: usize) -> usize
 }
 
 // Plays each line that ends, and answers the place after them.
-fn play_lines(bytes: &[u8], fields: &mut [u64; SIZE], text: &mut [u8; TEXT_SIZE]) -> usize
+fn play_lines(bytes: &[u8], text: &mut [u8], fields: &mut Fields) -> usize
     ensures { λ r. ⌜ r ≤ length (now (bytes .entry)) ⌝ }
 {
     let mut at = 0;
@@ -44,13 +45,13 @@ fn play_lines(bytes: &[u8], fields: &mut [u64; SIZE], text: &mut [u8; TEXT_SIZE]
         if end == bytes.len() {
             return at;
         }
-        play_line(&bytes[at..end], fields, text);
+        play_line(&bytes[at..end], text, fields);
         at = end + 1;
     }
 }
 
 // Moves the bytes between two places to the buffer's start, and answers how many they are.
-fn keep_rest(buffer: &mut [u8], from: usize, end: usize) -> usize
+fn keep_rest(from: usize, end: usize, buffer: &mut [u8]) -> usize
     requires { ⌜ (from ≤ end) × (end ≤ length (now buffer)) ⌝ }
     ensures { λ r. ⌜ Counts r (now (buffer .exit)) ⌝ }
 {

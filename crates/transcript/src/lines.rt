@@ -1,15 +1,14 @@
 // What each line does.
-use crate::fields;
-use crate::fields::SIZE;
-use crate::fields::read_numbers;
 use crate::runs::play_case;
 use crate::show::print;
-use crate::text;
-use crate::text::TEXT_SIZE;
+use case_calls::Run;
+use case_fields::lines::clear;
+use case_fields::lines::read_line;
+use case_fields::parts::Fields;
 
 // Does what the line says, or says that it is not understood.
-pub(crate) fn play_line(line: &[u8], fields: &mut [u64; SIZE], text: &mut [u8; TEXT_SIZE]) {
-    if is_understood(line, fields, text) {
+pub(crate) fn play_line(line: &[u8], text: &mut [u8], fields: &mut Fields) {
+    if is_understood(line, text, fields) {
         return;
     }
     print(b"? ");
@@ -22,7 +21,7 @@ fn repeat(line: &[u8]) {
 }
 
 // Does what the line says, and answers whether it could.
-fn is_understood(line: &[u8], fields: &mut [u64; SIZE], text: &mut [u8; TEXT_SIZE]) -> bool {
+fn is_understood(line: &[u8], text: &mut [u8], fields: &mut Fields) -> bool {
     if line.len() == 0 {
         return true;
     }
@@ -30,29 +29,17 @@ fn is_understood(line: &[u8], fields: &mut [u64; SIZE], text: &mut [u8; TEXT_SIZ
         b'#' => true,
         b'c' => {
             repeat(line);
-            fields::clear(fields);
+            clear(fields);
             true
         }
-        b'w' => read_numbers(line, fields, fields::WORDS),
-        b'l' => text::add_line(line, fields, text),
-        b'z' => text::add_zeros(line, fields, text),
-        b'r' => read_numbers(line, fields, fields::REGISTERS),
-        b's' => read_numbers(line, fields, fields::STATE),
-        b'u' => read_numbers(line, fields, fields::USED),
-        b'b' => read_numbers(line, fields, fields::BUFFERS),
-        b'a' => read_numbers(line, fields, fields::ADDRESSES),
-        b'n' => read_numbers(line, fields, fields::NUMBERS),
-        b'm' => read_numbers(line, fields, fields::MARKS),
-        b't' => read_numbers(line, fields, fields::TAPE),
-        b'o' => read_numbers(line, fields, fields::OUTPUT),
         b'p' => {
             repeat(line);
-            play_case(line, fields, text, false)
+            play_case(Run::Plain, line, text, fields)
         }
         b'g' => {
             repeat(line);
-            play_case(line, fields, text, true)
+            play_case(Run::Guarded, line, text, fields)
         }
-        _ => false,
+        letter => read_line(letter, line, text, fields),
     }
 }

@@ -1,112 +1,87 @@
 // The runs of a case: step after step, and again in one call.
-use crate::calls::Entry;
-use crate::calls::call;
-use crate::fields;
-use crate::fields::SIZE;
-use crate::fields::read_numbers;
 use crate::show::print;
 use crate::show::show;
-use crate::text::TEXT_SIZE;
+use case_calls::Entry;
+use case_calls::Run;
+use case_calls::call;
+use case_fields::numbers::read_numbers;
+use case_fields::parts;
+use case_fields::parts::Fields;
 use rules::Answer;
-ghost use Prim.Native.Nat.{_-_, _≤_};
 
 // Runs the case with the budget that the line gives, and answers whether the line is understood.
-pub(crate) fn play_case(
-    line: &[u8],
-    fields: &mut [u64; SIZE],
-    text: &[u8; TEXT_SIZE],
-    is_marked: bool,
-) -> bool {
-    if !read_numbers(line, fields, fields::BUDGET) {
+pub(crate) fn play_case(run: Run, line: &[u8], text: &[u8], fields: &mut Fields) -> bool {
+    if !read_numbers(line, parts::BUDGET, fields) {
         return false;
     }
     let mut shown = *fields;
-    let entry = entry_of(fields);
-    let budget = budget_of(fields);
-    run(
-        step_of(entry),
-        is_marked,
-        budget,
-        1,
+    play_steps(
+        run,
+        step_of(fields),
+        budget_of(fields),
         text,
         fields,
         &mut shown,
     );
     print(b"run ");
-    run(entry, is_marked, budget, budget, text, fields, &mut shown);
+    play_call(run, entry_of(fields), text, fields, &mut shown);
     true
 }
 
 // The budget, which is 0 where the text has it.
-fn budget_of(fields: &[u64; SIZE]) -> u64 {
-    if fields[fields::BUDGET] == 0 {
+fn budget_of(fields: &Fields) -> u64 {
+    if fields[parts::BUDGET] == 0 {
         return 0;
     }
-    fields[fields::BUDGET + 1]
+    fields[parts::BUDGET + 1]
 }
 
 // The function that takes what the case gives.
-fn entry_of(fields: &[u64; SIZE]) -> Entry {
-    if fields[fields::BUDGET] == 0 {
+fn entry_of(fields: &Fields) -> Entry {
+    if fields[parts::BUDGET] == 0 {
         return Entry::BudgetText;
     }
-    if fields[fields::WORDS] == fields::UNUSED {
-        return Entry::Text;
+    if fields[parts::WORDS] == parts::UNUSED {
+        return Entry::Text(fields[parts::BUDGET + 1]);
     }
-    Entry::Words
+    Entry::Words(fields[parts::BUDGET + 1])
 }
 
 // The function that takes one step of it.
-fn step_of(entry: Entry) -> Entry {
-    match entry {
-        Entry::Words => Entry::Step,
-        _ => entry,
+fn step_of(fields: &Fields) -> Entry {
+    if fields[parts::WORDS] == parts::UNUSED {
+        return Entry::Text(1);
     }
+    Entry::Step
 }
 
-// Runs the case from its start, in calls of so many steps, and shows what each call did. With a budget of 0 there is no step.
-fn run(
-    entry: Entry,
-    is_marked: bool,
-    budget: u64,
-    most: u64,
-    text: &[u8; TEXT_SIZE],
-    start: &[u64; SIZE],
-    shown: &mut [u64; SIZE],
-) {
-    if budget < most {
-        return;
-    }
+// Calls from the start, then from what that call left, and so on while the program goes on, and shows what each call did.
+fn play_steps(run: Run, entry: Entry, count: u64, text: &[u8], start: &Fields, shown: &mut Fields) {
     let mut fields = *start;
     let mut next = *start;
-    let mut left = budget;
-    loop {
-        let answered = call(entry, is_marked, most, text, &fields, &mut next);
-        let answer = answered.answer;
-        let steps = answered.steps;
-        show(answer, steps, &next, shown);
-        fields = next;
-        left = left_after(answer, steps, left);
-        if left == 0 {
+    let mut left = count;
+    while 0 < left {
+        let ran = call(run, entry, text, &fields, &mut next);
+        show(ran, &next, shown);
+        let answer = ran.answer;
+        if !is_paused(answer) {
             return;
         }
+        fields = next;
+        left -= 1;
     }
 }
 
-// How many steps a run still has; none where it does not pause.
-fn left_after(answer: Answer, steps: u64, left: u64) -> u64
-    ensures { λ r. ⌜ r ≤ left - 1 ⌝ }
-{
+fn is_paused(answer: Answer) -> bool {
     match answer {
-        Answer::Paused => {
-            if steps == 0 {
-                return 0;
-            }
-            if left < steps {
-                return 0;
-            }
-            left - steps
-        }
-        _ => 0,
+        Answer::Paused => true,
+        _ => false,
     }
+}
+
+// Calls once, and shows what the call did.
+fn play_call(run: Run, entry: Entry, text: &[u8], start: &Fields, shown: &mut Fields) {
+    let mut next = *start;
+    let ran = call(run, entry, text, start, &mut next);
+    show(ran, &next, shown);
 }

@@ -1,14 +1,16 @@
 // What is written of a call.
-use crate::calls::machine_of;
-use crate::fields;
-use crate::fields::LONGEST;
-use crate::fields::SIZE;
-use crate::text::first_bytes;
+use case_fields::parts;
+use case_fields::parts::Fields;
+use case_fields::parts::LONGEST;
+use case_fields::text::first_bytes;
 use hexadecimal::Put;
 use libc::STDOUT_FILENO;
 use rules::Answer;
-use rules::Machine;
-ghost use Rattle.transcript.specs.Parts.{IsPart};
+use rules::Ran;
+ghost use Rattle.case_fields.specs.Parts.{IsPart};
+
+// More than the longest line of an answer.
+const LINE_SIZE: usize = 128;
 
 pub(crate) fn print(text: &[u8]) {
     io::write_all(STDOUT_FILENO, text);
@@ -21,27 +23,29 @@ fn print_word(before: &[u8], v: u64) {
 }
 
 // The answer's line, and what changed since it was last shown. Where a step was done the line has pc and clk.
-pub(crate) fn show(answer: Answer, steps: u64, fields: &[u64; SIZE], shown: &mut [u64; SIZE]) {
-    show_answer(answer, steps, machine_of(fields));
-    if 0 < steps {
-        shown[fields::STATE + 1] = fields[fields::STATE + 1];
-        shown[fields::STATE + 2] = fields[fields::STATE + 2];
+pub(crate) fn show(ran: Ran, fields: &Fields, shown: &mut Fields) {
+    show_answer(ran);
+    if 0 < ran.steps {
+        shown[parts::PC] = fields[parts::PC];
+        shown[parts::CLK] = fields[parts::CLK];
     }
-    show_changes(b"registers", fields, shown, fields::REGISTERS);
-    show_changes(b"state", fields, shown, fields::STATE);
-    show_changes(b"used", fields, shown, fields::USED);
-    show_changes(b"addresses", fields, shown, fields::ADDRESSES);
-    show_changes(b"numbers", fields, shown, fields::NUMBERS);
-    show_changes(b"marks", fields, shown, fields::MARKS);
-    show_changes(b"tape", fields, shown, fields::TAPE);
-    show_changes(b"output", fields, shown, fields::OUTPUT);
+    show_changes(b"registers", parts::REGISTERS, fields, shown);
+    show_changes(b"state", parts::STATE, fields, shown);
+    show_changes(b"used", parts::USED, fields, shown);
+    show_changes(b"addresses", parts::ADDRESSES, fields, shown);
+    show_changes(b"numbers", parts::NUMBERS, fields, shown);
+    show_changes(b"marks", parts::MARKS, fields, shown);
+    show_changes(b"tape", parts::TAPE, fields, shown);
+    show_changes(b"output", parts::OUTPUT, fields, shown);
 }
 
 // The line that `solve` prints, and the callee.
-fn show_answer(answer: Answer, steps: u64, machine: Machine) {
+fn show_answer(ran: Ran) {
+    let answer = ran.answer;
+    let machine = ran.machine;
     let none = [0u64; 1];
-    let mut line = [0u8; 128];
-    if let Put::Next(end) = report::print(answer, steps, machine, &none[..0], &mut line) {
+    let mut line = [0u8; LINE_SIZE];
+    if let Put::Next(end) = report::print(answer, ran.steps, machine, &none[..0], &mut line) {
         print(first_bytes(&line, end));
     }
     match answer {
@@ -61,7 +65,7 @@ fn show_callee(a: u64, b: u64, c: u64, d: u64) {
 }
 
 // Each place of a part whose number is another than was last shown.
-fn show_changes(name: &[u8], fields: &[u64; SIZE], shown: &mut [u64; SIZE], part: usize)
+fn show_changes(name: &[u8], part: usize, fields: &Fields, shown: &mut Fields)
     requires { ⌜ IsPart part ⌝ }
 {
     let mut named = false;

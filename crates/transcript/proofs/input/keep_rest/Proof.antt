@@ -3,16 +3,16 @@ use Prim.Native.Nat.{_+_, _-_, _≤_}
 use mathlib.Core.Path.{_≡_}
 use native.Mathlib.Omega.{arith}
 use lib.ListN.{length}
+use Rattle.case_fields.proofs.Counting.{counts}
 use borrow.Author.Needs.{needs}
-use Rattle.transcript.proofs.Counting.{counts}
-use Rattle.transcript.proofs.input.keep.Statement.{statement}
-use Rattle.transcript.proofs.input.keep.Tie as tie
+use Rattle.transcript.proofs.input.keep_rest.Statement.{statement}
+use Rattle.transcript.proofs.input.keep_rest.Tie as tie
 
 abbrev Inv-loop : tie.InvT-loop
-Inv-loop buffer₀ from end count i₀ buffer i = (i ≤ count) × (from + count ≤ length buffer₀) × (length buffer ≡ length buffer₀)
+Inv-loop from end buffer₀ count i₀ buffer i = (i ≤ count) × (from + count ≤ length buffer₀) × (length buffer ≡ length buffer₀)
 
 abbrev μ-loop : tie.MeasureT-loop
-μ-loop buffer₀ from end count i₀ buffer i = count - i
+μ-loop from end buffer₀ count i₀ buffer i = count - i
 
 sub-count : tie.Need-sub-count Inv-loop μ-loop
 sub-count c = search needs

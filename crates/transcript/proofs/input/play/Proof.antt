@@ -7,10 +7,10 @@ use Rattle.transcript.proofs.input.play.Statement.{statement}
 use Rattle.transcript.proofs.input.play.Tie as tie
 
 abbrev Inv-loop : tie.InvT-loop
-Inv-loop buffer₀ fields₀ text₀ rest₀ pieces₀ buffer fields text rest pieces = (Counts rest buffer) × (length buffer ≡ length buffer₀)
+Inv-loop text₀ fields₀ buffer₀ rest₀ pieces₀ text fields buffer rest pieces = (length text ≡ length text₀) × (Counts rest buffer) × (length buffer ≡ length buffer₀)
 
 abbrev μ-loop : tie.MeasureT-loop
-μ-loop buffer₀ fields₀ text₀ rest₀ pieces₀ buffer fields text rest pieces = pieces
+μ-loop text₀ fields₀ buffer₀ rest₀ pieces₀ text fields buffer rest pieces = pieces
 
 loop-holds : tie.Need-loop-holds Inv-loop μ-loop
 loop-holds c = search needs
@@ -29,6 +29,9 @@ play-line-requires c κs = search needs
 
 same-length : tie.Need-same-length Inv-loop μ-loop
 same-length c = search needs
+
+same-length-2 : tie.Need-same-length-2 Inv-loop μ-loop
+same-length-2 c = search needs
 
 returns : tie.Need-returns Inv-loop μ-loop
 returns c = search needs
@@ -54,8 +57,11 @@ loop-less c = search needs
 loop-again : tie.Need-loop-again Inv-loop μ-loop
 loop-again c = search needs
 
-same-length-2 : tie.Need-same-length-2 Inv-loop μ-loop
-same-length-2 c = search needs
+same-length-3 : tie.Need-same-length-3 Inv-loop μ-loop
+same-length-3 c = search needs
+
+same-length-4 : tie.Need-same-length-4 Inv-loop μ-loop
+same-length-4 c = search needs
 
 returns-2 : tie.Need-returns-2 Inv-loop μ-loop
 returns-2 c = search needs
@@ -72,6 +78,7 @@ play-spec =
     slice-aggregate-play-line
     play-line-requires
     same-length
+    same-length-2
     returns
     slice-reshare-prefix-play-lines
     slice-aggregate-play-lines
@@ -80,5 +87,6 @@ play-spec =
     sub-pieces
     loop-less
     loop-again
-    same-length-2
+    same-length-3
+    same-length-4
     returns-2)

@@ -1,21 +1,25 @@
 -- `transcript::input::play_lines` stays within the bytes; each line leaves fewer of them.
 use Prim.Native.Nat.{_-_, _≤_}
+use mathlib.Core.Path.{_≡_}
 use lib.ListN.{length}
 use borrow.Author.Needs.{needs}
 use Rattle.transcript.proofs.input.play_lines.Statement.{statement}
 use Rattle.transcript.proofs.input.play_lines.Tie as tie
 
 abbrev Inv-loop : tie.InvT-loop
-Inv-loop bytes fields₀ text₀ at₀ fields text at = at ≤ length bytes
+Inv-loop bytes text₀ fields₀ at₀ text fields at = (at ≤ length bytes) × (length text ≡ length text₀)
 
 abbrev μ-loop : tie.MeasureT-loop
-μ-loop bytes fields₀ text₀ at₀ fields text at = length bytes - at
+μ-loop bytes text₀ fields₀ at₀ text fields at = length bytes - at
 
 loop-holds : tie.Need-loop-holds Inv-loop μ-loop
 loop-holds c = search needs
 
 find-requires : tie.Need-find-requires Inv-loop μ-loop
 find-requires c κs = search needs
+
+same-length : tie.Need-same-length Inv-loop μ-loop
+same-length c = search needs
 
 returns : tie.Need-returns Inv-loop μ-loop
 returns c = search needs
@@ -49,6 +53,7 @@ play-lines-spec =
     μ-loop
     loop-holds
     find-requires
+    same-length
     returns
     sub-play-line
     part-play-line-start

@@ -1,7 +1,7 @@
 -- `transcript::input::read_after` answers a place within the buffer.
 use native.Mathlib.Omega.{arith}
+use Rattle.case_fields.proofs.Counting.{counts}
 use borrow.Author.Needs.{needs}
-use Rattle.transcript.proofs.Counting.{counts}
 use Rattle.transcript.proofs.input.read_after.Statement.{statement}
 use Rattle.transcript.proofs.input.read_after.Tie as tie
 

@@ -1,14 +1,15 @@
 -- `transcript::show::show_changes` keeps within the part.
 use Prim.Native.Nat.{_-_, _≤_}
+use Rattle.case_fields.specs.Parts.{longest}
 use borrow.Author.Needs.{needs}
 use Rattle.transcript.proofs.show.show_changes.Statement.{statement}
 use Rattle.transcript.proofs.show.show_changes.Tie as tie
 
 abbrev Inv-loop : tie.InvT-loop
-Inv-loop name fields shown₀ part named₀ i₀ t8 shown named i = i ≤ 4097
+Inv-loop name part fields shown₀ named₀ i₀ t8 shown named i = i ≤ longest
 
 abbrev μ-loop : tie.MeasureT-loop
-μ-loop name fields shown₀ part named₀ i₀ t8 shown named i = 4097 - i
+μ-loop name part fields shown₀ named₀ i₀ t8 shown named i = longest - i
 
 loop-holds : tie.Need-loop-holds Inv-loop μ-loop
 loop-holds c = search needs

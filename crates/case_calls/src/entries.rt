@@ -1,0 +1,129 @@
+// The library's functions, by which run and which program.
+use crate::Entry;
+use crate::Run;
+use executor::guarded;
+use executor::plain;
+use machine::GuardedMachine;
+use rules::Machine;
+use rules::Marks;
+use rules::Ran;
+
+pub(crate) fn enter(
+    run: Run,
+    entry: Entry,
+    words: &[u64],
+    text: &[u8],
+    machine: Machine,
+    extras: Marks,
+    addresses: &mut [u64],
+    numbers: &mut [u64],
+    marks: &mut [u64],
+    tape: &mut [u64],
+    output: &mut [u64],
+) -> Ran {
+    match run {
+        Run::Plain => enter_plain(
+            entry,
+            words,
+            text,
+            machine,
+            addresses,
+            numbers,
+            tape,
+            output,
+        ),
+        Run::Guarded => enter_guarded(
+            entry,
+            words,
+            text,
+            machine,
+            extras,
+            addresses,
+            numbers,
+            marks,
+            tape,
+            output,
+        ),
+    }
+}
+
+fn enter_plain(
+    entry: Entry,
+    words: &[u64],
+    text: &[u8],
+    machine: Machine,
+    addresses: &mut [u64],
+    numbers: &mut [u64],
+    tape: &mut [u64],
+    output: &mut [u64],
+) -> Ran {
+    match entry {
+        Entry::Step => machine::lend_and_step(words, machine, addresses, numbers, tape, output),
+        Entry::Words(budget) => {
+            plain::run_words(words, budget, machine, addresses, numbers, tape, output)
+        }
+        Entry::Text(budget) => {
+            plain::run_text(text, budget, machine, addresses, numbers, tape, output)
+        }
+        Entry::BudgetText => {
+            plain::run_budget_text(text, machine, addresses, numbers, tape, output)
+        }
+    }
+}
+
+fn enter_guarded(
+    entry: Entry,
+    words: &[u64],
+    text: &[u8],
+    machine: Machine,
+    extras: Marks,
+    addresses: &mut [u64],
+    numbers: &mut [u64],
+    marks: &mut [u64],
+    tape: &mut [u64],
+    output: &mut [u64],
+) -> Ran {
+    match entry {
+        Entry::Step => machine::lend_and_step_guarded(
+            words,
+            GuardedMachine { machine, extras },
+            addresses,
+            numbers,
+            marks,
+            tape,
+            output,
+        ),
+        Entry::Words(budget) => guarded::run_words(
+            words,
+            budget,
+            machine,
+            extras,
+            addresses,
+            numbers,
+            marks,
+            tape,
+            output,
+        ),
+        Entry::Text(budget) => guarded::run_text(
+            text,
+            budget,
+            machine,
+            extras,
+            addresses,
+            numbers,
+            marks,
+            tape,
+            output,
+        ),
+        Entry::BudgetText => guarded::run_budget_text(
+            text,
+            machine,
+            extras,
+            addresses,
+            numbers,
+            marks,
+            tape,
+            output,
+        ),
+    }
+}

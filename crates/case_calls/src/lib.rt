@@ -1,0 +1,88 @@
+// One call that a case asks for: the state is taken out of the fields, and what the call leaves is put into fields again. The call is
+// lent buffers of this crate's own.
+mod entries;
+
+use case_fields::buffers::fill;
+use case_fields::buffers::put_buffers;
+use case_fields::machines::machine_of;
+use case_fields::machines::put_machine;
+use case_fields::parts;
+use case_fields::parts::Fields;
+use case_fields::parts::LONGEST;
+use case_fields::text::first_bytes;
+use rules::Marks;
+use rules::Ran;
+
+// Which run a case asks for.
+pub enum Run {
+    Plain,
+    Guarded,
+}
+
+// The library's functions, each plain and guarded: one that steps a record where it is kept, and those that run a program, two of them
+// with a budget.
+pub enum Entry {
+    Step,
+    Words(u64),
+    Text(u64),
+    BudgetText,
+}
+
+// Calls from the state of some fields, and puts what the call leaves into others.
+pub fn call(run: Run, entry: Entry, text: &[u8], fields: &Fields, next: &mut Fields) -> Ran {
+    let words = words_of(fields);
+    let bytes = first_bytes(text, fields[parts::TEXT_LENGTH] as usize);
+    let machine = machine_of(fields);
+    let extras = Marks {
+        registers: fields[parts::REGISTER_MARKS],
+    };
+    let mut addresses = [0u64; LONGEST];
+    let mut numbers = [0u64; LONGEST];
+    let mut marks = [0u64; LONGEST];
+    let mut tape = [0u64; LONGEST];
+    let mut output = [0u64; LONGEST];
+    let addresses_length = fill(
+        fields,
+        parts::ADDRESSES,
+        parts::ADDRESSES_LENGTH,
+        &mut addresses,
+    );
+    let numbers_length = fill(fields, parts::NUMBERS, parts::NUMBERS_LENGTH, &mut numbers);
+    let marks_length = fill(fields, parts::MARKS, parts::MARKS_LENGTH, &mut marks);
+    let tape_length = fill(fields, parts::TAPE, parts::TAPE_LENGTH, &mut tape);
+    let output_length = fill(fields, parts::OUTPUT, parts::OUTPUT_LENGTH, &mut output);
+    let ran = entries::enter(
+        run,
+        entry,
+        words,
+        bytes,
+        machine,
+        extras,
+        &mut addresses[..addresses_length],
+        &mut numbers[..numbers_length],
+        &mut marks[..marks_length],
+        &mut tape[..tape_length],
+        &mut output[..output_length],
+    );
+    put_buffers(&addresses, &numbers, &marks, &tape, &output, next);
+    let left = ran.machine;
+    put_machine(left, next);
+    put_extras(run, ran.extras, next);
+    ran
+}
+
+fn words_of(fields: &Fields) -> &[u64] {
+    let all = &fields[..];
+    let count = fields[parts::WORDS] as usize;
+    report::used_output(&all[1..parts::PART], count)
+}
+
+// A plain call is not handed the marks of the registers, and leaves them.
+fn put_extras(run: Run, extras: Marks, fields: &mut Fields) {
+    match run {
+        Run::Plain => {}
+        Run::Guarded => {
+            fields[parts::REGISTER_MARKS] = extras.registers;
+        }
+    }
+}

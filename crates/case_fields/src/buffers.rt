@@ -1,0 +1,67 @@
+// The numbers of a part, taken out and put in.
+use crate::parts;
+use crate::parts::Fields;
+use crate::parts::LONGEST;
+ghost use Prim.Native.Nat.{_≤_, _<_};
+ghost use lib.ListN.{length};
+ghost use Rattle.io.specs.Counts.{Counts};
+ghost use Rattle.case_fields.specs.Parts.{IsPart, longest, size};
+
+// Takes as many numbers out of a part as there is room for.
+pub(crate) fn take(fields: &Fields, part: usize, numbers: &mut [u64])
+    requires { ⌜ IsPart part ⌝ }
+    requires { ⌜ length (now numbers) ≤ longest ⌝ }
+{
+    let mut i = 0;
+    while i < numbers.len() {
+        numbers[i] = fields[part + 1 + i];
+        i += 1;
+    }
+}
+
+// Lays a part's numbers out in a buffer, and answers how much of it is lent, which is the number at another place.
+pub fn fill(fields: &Fields, part: usize, place: usize, buffer: &mut [u64; LONGEST]) -> usize
+    requires { ⌜ IsPart part ⌝ }
+    requires { ⌜ place < size ⌝ }
+    ensures { λ r. ⌜ Counts r (now (buffer .exit)) ⌝ }
+{
+    take(fields, part, buffer);
+    least(fields[place] as usize, LONGEST)
+}
+
+fn least(a: usize, b: usize) -> usize
+    ensures { λ r. ⌜ (r ≤ a) × (r ≤ b) ⌝ }
+{
+    if a < b {
+        return a;
+    }
+    b
+}
+
+// Puts numbers into a part.
+pub(crate) fn put(numbers: &[u64], part: usize, fields: &mut Fields)
+    requires { ⌜ length (now numbers) ≤ longest ⌝ }
+    requires { ⌜ IsPart part ⌝ }
+{
+    let mut i = 0;
+    while i < numbers.len() {
+        fields[part + 1 + i] = numbers[i];
+        i += 1;
+    }
+}
+
+// Puts what is in each buffer into its part.
+pub fn put_buffers(
+    addresses: &[u64; LONGEST],
+    numbers: &[u64; LONGEST],
+    marks: &[u64; LONGEST],
+    tape: &[u64; LONGEST],
+    output: &[u64; LONGEST],
+    fields: &mut Fields,
+) {
+    put(addresses, parts::ADDRESSES, fields);
+    put(numbers, parts::NUMBERS, fields);
+    put(marks, parts::MARKS, fields);
+    put(tape, parts::TAPE, fields);
+    put(output, parts::OUTPUT, fields);
+}

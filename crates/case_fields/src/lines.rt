@@ -1,0 +1,34 @@
+// What each line gives.
+use crate::numbers::read_numbers;
+use crate::parts;
+use crate::parts::Fields;
+use crate::text;
+
+// What a case starts from.
+pub fn clear(fields: &mut Fields) {
+    *fields = [parts::UNUSED; parts::SIZE];
+    read_numbers(b"registers 0 0 0 0 0 0 0 0 0 0 0", parts::REGISTERS, fields);
+    read_numbers(b"state 0 0 fffffffe00000002 0 0 0 0", parts::STATE, fields);
+    read_numbers(b"used 0 0 0", parts::USED, fields);
+    read_numbers(b"buffers 800 800 800 1000 1000", parts::BUFFERS, fields);
+    read_numbers(b"text 0", parts::TEXT, fields);
+}
+
+// Takes what a line gives, by its first letter, and says whether it is understood.
+pub fn read_line(letter: u8, line: &[u8], text: &mut [u8], fields: &mut Fields) -> bool {
+    match letter {
+        b'w' => read_numbers(line, parts::WORDS, fields),
+        b'l' => text::add_line(line, text, fields),
+        b'z' => text::add_zeros(line, text, fields),
+        b'r' => read_numbers(line, parts::REGISTERS, fields),
+        b's' => read_numbers(line, parts::STATE, fields),
+        b'u' => read_numbers(line, parts::USED, fields),
+        b'b' => read_numbers(line, parts::BUFFERS, fields),
+        b'a' => read_numbers(line, parts::ADDRESSES, fields),
+        b'n' => read_numbers(line, parts::NUMBERS, fields),
+        b'm' => read_numbers(line, parts::MARKS, fields),
+        b't' => read_numbers(line, parts::TAPE, fields),
+        b'o' => read_numbers(line, parts::OUTPUT, fields),
+        _ => false,
+    }
+}

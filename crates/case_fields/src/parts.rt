@@ -1,0 +1,61 @@
+// Where the parts of a case's fields lie: one part for each kind of line. A part's first place has how many numbers the line gave, those
+// after it have the numbers.
+
+// The most numbers of a line, and the longest buffer that a case can lend.
+pub const LONGEST: usize = 4097;
+
+pub const PART: usize = LONGEST + 1;
+
+pub const WORDS: usize = 0;
+
+pub const REGISTERS: usize = PART;
+
+pub const STATE: usize = 2 * PART;
+
+pub const USED: usize = 3 * PART;
+
+pub const BUFFERS: usize = 4 * PART;
+
+pub const ADDRESSES: usize = 5 * PART;
+
+pub const NUMBERS: usize = 6 * PART;
+
+pub const MARKS: usize = 7 * PART;
+
+pub const TAPE: usize = 8 * PART;
+
+pub const OUTPUT: usize = 9 * PART;
+
+pub const BUDGET: usize = 10 * PART;
+
+pub const ZEROS: usize = 11 * PART;
+
+pub const TEXT: usize = 12 * PART;
+
+pub const SIZE: usize = 13 * PART;
+
+pub type Fields = [u64; SIZE];
+
+// What stands where no line has put anything.
+pub const UNUSED: u64 = 0xEEEE_EEEE_EEEE_EEEE;
+
+// The word of the registers' marks, after the ten registers.
+pub const REGISTER_MARKS: usize = REGISTERS + 11;
+
+pub const PC: usize = STATE + 1;
+
+pub const CLK: usize = STATE + 2;
+
+// How much of each buffer is lent.
+pub const ADDRESSES_LENGTH: usize = BUFFERS + 1;
+
+pub const NUMBERS_LENGTH: usize = BUFFERS + 2;
+
+pub const MARKS_LENGTH: usize = BUFFERS + 3;
+
+pub const TAPE_LENGTH: usize = BUFFERS + 4;
+
+pub const OUTPUT_LENGTH: usize = BUFFERS + 5;
+
+// How many bytes the text has.
+pub const TEXT_LENGTH: usize = TEXT + 1;
