@@ -36,7 +36,8 @@ fn refuse(mode: Mode, machine: Machine, refusal: Refusal) -> Ran
     }
 }
 
-// Runs a loaded program, if what is handed in is fit.
+// Runs a loaded program, if what is handed in is fit. The run is called at two places, each with its flag: called at one, or with a flag
+// that is not known there, it would be compiled into its caller, and a step would take a tenth more instructions.
 fn enter(
     mode: Mode,
     words: &[u64],
@@ -58,8 +59,32 @@ fn enter(
         (handed mode machine (now (addresses .entry)) (now (numbers .entry)) (now (marks .entry)) (now (tape .entry)) (now (output .entry))) ⌝ }
 {
     if checks::accepts(mode, machine, addresses, numbers, marks, tape, output) {
+        let extras = mode.extras;
+        if mode.guarded {
+            let guarded = Mode {
+                guarded: true,
+                extras,
+            };
+            return interpreter::run(
+                guarded,
+                words,
+                rows,
+                budget,
+                machine,
+                addresses,
+                numbers,
+                marks,
+                tape,
+                output,
+                values,
+            );
+        }
+        let plain = Mode {
+            guarded: false,
+            extras,
+        };
         return interpreter::run(
-            mode,
+            plain,
             words,
             rows,
             budget,

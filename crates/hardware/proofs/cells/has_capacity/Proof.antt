@@ -68,8 +68,8 @@ has-capacity-spec =
     returns
     slice-aggregate-rank-of
     rank-of-requires
-    add-rank-of
     slice-aggregate-rank-of-2
+    add-rank-of
     rank-of-requires-2
     sub-result
     sub-result-2

@@ -138,9 +138,9 @@ pub make-room-spec : {M : Type 1} → statement M
 make-room-spec =
     tie.close
     (tie.spec
-    add-rank-of
     slice-reshare-prefix-rank-of
     slice-aggregate-rank-of
+    add-rank-of
     rank-of-requires
     sub-new
     sub-new-2
