@@ -33,10 +33,6 @@ clockEnd = 1000000000000
 unfoldable pub frameLimit : ℕ
 frameLimit = 512
 
--- the most words of a program: a frame has at most four
-abbrev pub wordLimit : ℕ
-wordLimit = 2048
-
 unfoldable pub textLimit : ℕ
 textLimit = 65536
 
@@ -49,6 +45,10 @@ valueLimit = 4096
 -- a word of marks, one bit for each of the ten registers, is below it
 abbrev pub marksEnd : ℕ
 marksEnd = 1024
+
+-- the most words of a program: a frame has at most four
+abbrev pub wordLimit : ℕ
+wordLimit = 2048
 
 abbrev pub choose : {A : Type 0} → Bool → A → A → A
 choose true a b = a
