@@ -19,8 +19,7 @@ pub enum Run {
     Guarded,
 }
 
-// The library's functions, each plain and guarded: one that steps a record where it is kept, and those that run a program, two of them
-// with a budget.
+// The library's functions that a case can ask for, each plain and guarded; some take a budget. `Step` steps a record where it is kept.
 pub enum Entry {
     Step,
     Words(u64),

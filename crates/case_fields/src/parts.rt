@@ -14,7 +14,7 @@ pub const STATE: usize = 2 * PART;
 
 pub const USED: usize = 3 * PART;
 
-pub const BUFFERS: usize = 4 * PART;
+pub(crate) const BUFFERS: usize = 4 * PART;
 
 pub const ADDRESSES: usize = 5 * PART;
 
@@ -28,9 +28,9 @@ pub const OUTPUT: usize = 9 * PART;
 
 pub const BUDGET: usize = 10 * PART;
 
-pub const ZEROS: usize = 11 * PART;
+pub(crate) const ZEROS: usize = 11 * PART;
 
-pub const TEXT: usize = 12 * PART;
+pub(crate) const TEXT: usize = 12 * PART;
 
 pub const SIZE: usize = 13 * PART;
 

@@ -1,18 +1,19 @@
 -- RET's two cells below R9: among rising addresses they stand side by side.
-use Prim.Native.Nat.{ℕ, suc, _-_, _≤_, _<_}
+use Prim.Native.Nat.{ℕ, suc, _+_, _-_, _≤_, _<_}
 use mathlib.Core.Path.{_≡_, refl, sym, ap, _∙_}
 use mathlib.Core.Bool.{Bool, true, false, _&&_}
 use mathlib.Core.List.{List}
 use native.Mathlib.Omega.{arith}
 use lib.Dec.{leb, eqb}
 use lib.ListN.{getD, take}
-use borrow.Author.Tests.{le-leb, lt-leb}
+use borrow.Author.Tests.{leb-true, leb-false, eqb-true, eqb-false, le-leb, lt-leb}
 use Rattle.rules.specs.declared.Refusal.the-variants.{CellAbsent}
 use Rattle.rules.specs.Results.{refuse, pass, require}
 use Rattle.rules.specs.Memory.{Slot, absent, present}
 use Rattle.rules.specs.Cells.{Cells, get, numberCells, markCells}
 use Rattle.rules.specs.Step.{slotValue, readBelow}
 use Rattle.rules.specs.Guarded.{cellMark}
+use Rattle.rules.proofs.Laws.BoolLaws.{and-left, and-right}
 use Rattle.hardware.specs.declared.cells.Found.the-variants as Found
 use Rattle.hardware.specs.Buffers.{rank, foundOf, cellsOf, Rising, Ordered}
 use Rattle.hardware.proofs.RankLaws.{rank-next}
@@ -21,22 +22,33 @@ use Rattle.hardware.proofs.BufferLaws.{found-present, found-other, found-end, g
 use Rattle.effects.specs.Effects.{SetRegister, Refuse}
 use Rattle.effects.specs.Changes.{onResult, sinkWhere, returnsFrom}
 
--- the place behind that of an address is the next address's
-module _ (n : ℕ) (xs : List ℕ) (o : Rising n xs) (a i b j : ℕ) (f : foundOf (take n xs) a ≡ Found.At i) (p : b ≡ suc a) (q : j ≡ suc i) where
-  next-rank : j ≡ rank (take n xs) b
+-- the place behind that of an address is the next address's, where `cells::is_next` looks
+module _ (n : ℕ) (xs : List ℕ) (o : Rising n xs) (a i b : ℕ) (f : foundOf (take n xs) a ≡ Found.At i) (p : b ≡ suc a) where
+  next-rank : i + 1 ≡ rank (take n xs) b
   next-rank =
       let g = found-at (take n xs) a i f in
       let k : rank (take n xs) (suc a) ≡ suc (rank (take n xs) a) = rw (g .0) at (rank-next 0 (take n xs) a (o .rises)) in
-      q ∙ sym (ap (rank (take n xs)) p ∙ k ∙ ap suc (g .1))
+      let r : rank (take n xs) b ≡ suc i = ap (rank (take n xs)) p ∙ k ∙ ap suc (g .1) in
+      omega arith
 
-  pub next-present : j < n → getD xs j 0 ≡ b → foundOf (take n xs) b ≡ Found.At j
-  next-present h g = sym (found-present n xs o b j next-rank h g)
+  abbrev isNext : Bool
+  isNext = leb (i + 2) n && eqb (getD xs (i + 1) 0) b
 
-  pub next-other : j < n → (getD xs j 0 ≡ b → ⊥) → foundOf (take n xs) b ≡ Found.Absent j
-  next-other h g = sym (found-other n xs o b j next-rank h g)
+  pub next-present : isNext ≡ true → foundOf (take n xs) b ≡ Found.At (i + 1)
+  next-present h =
+      let l = leb-true (i + 2) n (and-left (leb (i + 2) n) _ h) in
+      sym (found-present n xs o b (i + 1) next-rank (omega arith) (eqb-true (getD xs (i + 1) 0) b (and-right (leb (i + 2) n) _ h)))
 
-  pub next-end : n ≤ j → foundOf (take n xs) b ≡ Found.Absent j
-  next-end h = sym (found-end n xs o b j next-rank h)
+  pub next-absent : isNext ≡ false → foundOf (take n xs) b ≡ Found.Absent (i + 1)
+  next-absent = go (leb (i + 2) n) refl
+    where
+      go : (s : Bool) → leb (i + 2) n ≡ s → (s && eqb (getD xs (i + 1) 0) b) ≡ false → foundOf (take n xs) b ≡ Found.Absent (i + 1)
+      go true e h =
+          let l = leb-true (i + 2) n e in
+          sym (found-other n xs o b (i + 1) next-rank (omega arith) (eqb-false (getD xs (i + 1) 0) b h))
+      go false e h =
+          let l = leb-false (i + 2) n e in
+          sym (found-end n xs o b (i + 1) next-rank (omega arith))
 
 module _ (guarded : Bool) (n : ℕ) (xs ns ts : List ℕ) (o : Ordered guarded n xs ns ts) (r : ℕ) where
   abbrev c : Cells ℕ

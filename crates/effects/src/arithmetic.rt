@@ -12,7 +12,7 @@ ghost use Rattle.effects.specs.Changes.{setsComplement, setsSmall};
 ghost use Rattle.effects.specs.Operations.{setsElement};
 
 // AND, OR, XOR and GTE take operands below it, RC up to it.
-pub const SMALL_END: u64 = 0xFFFF_FFFF;
+pub(crate) const SMALL_END: u64 = 0xFFFF_FFFF;
 
 // ADD and MUL, by their result.
 pub fn in_field(result: FieldElement, register: usize, next: u64) -> Effect

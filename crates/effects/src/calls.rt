@@ -15,7 +15,8 @@ ghost use Rattle.effects.specs.Operations.{withMark, hasCapacity, callsW
 // CALL: the next pc goes below R9.
 pub fn call(target: u64, next: u64, frame: u64, count: usize, addresses: &[u64]) -> Effect
     requires { ⌜ Rising count (now addresses) ⌝ }
-    ensures { λ r. ⌜ Means (take count (now (addresses .entry))) r (λ t. callsWhere (hasCapacity (now (addresses .entry)) count (frame - 1) 1) frame next t target) ⌝ }
+    ensures { λ r. ⌜ Means (take count (now (addresses .entry))) r
+        (λ t. callsWhere (hasCapacity (now (addresses .entry)) count (frame - 1) 1) frame next t target) ⌝ }
 {
     if frame == 0 {
         return Effect::refuse(Refusal::StoreFault);
@@ -33,7 +34,9 @@ pub fn return_from(
     marks: &[u64],
 ) -> Effect
     requires { ⌜ Ordered guarded count (now addresses) (now numbers) (now marks) ⌝ }
-    ensures { λ r. ⌜ ((l : List ℕ) → Means l r (λ t. withMark t (returnsFrom guarded (cellsOf count (now (addresses .entry)) (now (numbers .entry))) (cellsOf count (now (addresses .entry)) (now (marks .entry))) frame))) ⌝ }
+    ensures { λ r. ⌜ ((l : List ℕ)
+        → Means l r (λ t. withMark t (returnsFrom guarded (cellsOf count (now (addresses .entry)) (now (numbers .entry)))
+        (cellsOf count (now (addresses .entry)) (now (marks .entry))) frame))) ⌝ }
 {
     if frame < 2 {
         return Effect::refuse(Refusal::CellAbsent);

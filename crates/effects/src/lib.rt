@@ -60,7 +60,7 @@ pub struct Effect {
 
 impl Effect {
     // A number to a register. It is marked by the flag, and by the registers that it is made of, which are looked at where it is written.
-    pub fn set_register(register: usize, value: u64, mark: bool, next: u64) -> Effect
+    pub(crate) fn set_register(register: usize, value: u64, mark: bool, next: u64) -> Effect
         ensures { λ r. ⌜ ((l : List ℕ) → Means l r (λ t. SetRegister register value (mark || t) next)) ⌝ }
     {
         Effect {
@@ -75,7 +75,7 @@ impl Effect {
     }
 
     // A number to the present cell at a place.
-    pub fn store_at(at: usize, address: u64, number: u64, next: u64) -> Effect
+    pub(crate) fn store_at(at: usize, address: u64, number: u64, next: u64) -> Effect
         ensures { λ r. ⌜ ((l : List ℕ) → Found.At at ≡ foundOf l address → Means l r (λ t. Store address number t next)) ⌝ }
     {
         Effect {
@@ -90,7 +90,7 @@ impl Effect {
     }
 
     // A number to a new cell, which is put in at a place.
-    pub fn insert(at: usize, address: u64, number: u64, next: u64) -> Effect
+    pub(crate) fn insert(at: usize, address: u64, number: u64, next: u64) -> Effect
         ensures { λ r. ⌜ ((l : List ℕ) → Found.Absent at ≡ foundOf l address → Means l r (λ t. Store address number t next)) ⌝ }
     {
         Effect {
@@ -119,7 +119,7 @@ impl Effect {
     }
 
     // Tape values from a place on to the cells from an address on.
-    pub fn load_tape(from: usize, count: usize, address: u64, next: u64) -> Effect
+    pub(crate) fn load_tape(from: usize, count: usize, address: u64, next: u64) -> Effect
         ensures { λ r. ⌜ ((l : List ℕ) → Means l r (λ t. LoadTape from count address next)) ⌝ }
     {
         Effect {
@@ -134,7 +134,7 @@ impl Effect {
     }
 
     // The numbers of cells from a place on to tape and output.
-    pub fn store_tape(at: usize, count: usize, next: u64) -> Effect
+    pub(crate) fn store_tape(at: usize, count: usize, next: u64) -> Effect
         ensures { λ r. ⌜ ((l : List ℕ) → Means l r (λ t. StoreTape at count next)) ⌝ }
     {
         Effect {
@@ -149,7 +149,7 @@ impl Effect {
     }
 
     // A call; the four cells from a place on name the callee.
-    pub fn call_contract(at: usize, delegate: bool, next: u64) -> Effect
+    pub(crate) fn call_contract(at: usize, delegate: bool, next: u64) -> Effect
         ensures { λ r. ⌜ ((l : List ℕ) → Means l r (λ t. CallContract at delegate next)) ⌝ }
     {
         Effect {

@@ -32,7 +32,7 @@ pub fn is_source_marked(mode: Mode, rows: &[u16], row: Row) -> bool
 }
 
 // Is one of the n cells from a place on marked, in a guarded run?
-pub fn is_part_marked(guarded: bool, at: usize, n: usize, marks: &[u64]) -> bool
+pub(crate) fn is_part_marked(guarded: bool, at: usize, n: usize, marks: &[u64]) -> bool
     requires { ⌜ (guarded ≡ true → at + n ≤ length (now marks)) ⌝ }
     ensures { λ r. ⌜ r ≡ partMark guarded (now (marks .entry)) at n ⌝ }
 {

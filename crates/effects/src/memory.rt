@@ -22,14 +22,14 @@ pub enum Tested {
 }
 
 // Can a cell hold a number?
-pub fn is_storable(n: u64) -> bool
+pub(crate) fn is_storable(n: u64) -> bool
     ensures { λ r. ⌜ r ≡ isStorable n ⌝ }
 {
     n <= Cell::LARGEST
 }
 
 // The tests of a store of one number, the number's before the region's.
-pub fn test_store(address: u64, number: u64) -> Tested
+pub(crate) fn test_store(address: u64, number: u64) -> Tested
     ensures { λ r. ⌜ r ≡ testOf address number ⌝ }
 {
     if !is_storable(number) {
@@ -44,9 +44,16 @@ pub fn test_store(address: u64, number: u64) -> Tested
 }
 
 // One number to one cell, for CALL and MSTORE.
-pub fn store_cell(address: u64, number: u64, next: u64, count: usize, addresses: &[u64]) -> Effect
+pub(crate) fn store_cell(
+    address: u64,
+    number: u64,
+    next: u64,
+    count: usize,
+    addresses: &[u64],
+) -> Effect
     requires { ⌜ Rising count (now addresses) ⌝ }
-    ensures { λ r. ⌜ Means (take count (now (addresses .entry))) r (λ t. storesWhere (hasCapacity (now (addresses .entry)) count address 1) address number t next) ⌝ }
+    ensures { λ r. ⌜ Means (take count (now (addresses .entry))) r
+        (λ t. storesWhere (hasCapacity (now (addresses .entry)) count address 1) address number t next) ⌝ }
 {
     match test_store(address, number) {
         Tested::Refused(f) => Effect::refuse(f),
@@ -74,7 +81,9 @@ pub fn load(
     marks: &[u64],
 ) -> Effect
     requires { ⌜ Ordered guarded count (now addresses) (now numbers) (now marks) ⌝ }
-    ensures { λ r. ⌜ ((l : List ℕ) → Means l r (λ t. withMark t (loadsAt (cellOf guarded (cellsOf count (now (addresses .entry)) (now (numbers .entry))) (cellsOf count (now (addresses .entry)) (now (marks .entry)))) address register next))) ⌝ }
+    ensures { λ r. ⌜ ((l : List ℕ)
+        → Means l r (λ t. withMark t (loadsAt (cellOf guarded (cellsOf count (now (addresses .entry)) (now (numbers .entry)))
+        (cellsOf count (now (addresses .entry)) (now (marks .entry)))) address register next))) ⌝ }
 {
     let FieldElement::Element(x) = address else {
         return Effect::refuse(Refusal::NotInField);

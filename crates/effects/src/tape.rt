@@ -85,7 +85,11 @@ pub fn store_tape(
     requires { ⌜ (guarded ≡ true → length (now marks) ≡ length (now addresses)) ⌝ }
     requires { ⌜ used ≤ length (now tape) ⌝ }
     requires { ⌜ shown ≤ length (now output) ⌝ }
-    ensures { λ r. ⌜ ((l : List ℕ) → Means l r (λ t. onSpan (spanAmong (take count (now (addresses .entry))) start n) (λ at. sinkWhere (partMark guarded (now (marks .entry)) at n) (check (more used n (now (tape .entry))) NoCapacity (check (more shown n (now (output .entry))) NoCapacity (StoreTape at n next)))))) ⌝ }
+    ensures { λ r. ⌜ ((l : List ℕ)
+        → Means l r (λ t. onSpan (spanAmong (take count (now (addresses .entry))) start n)
+        (λ at. sinkWhere (partMark guarded (now (marks .entry)) at n)
+        (check (more used n (now (tape .entry))) NoCapacity
+        (check (more shown n (now (output .entry))) NoCapacity (StoreTape at n next)))))) ⌝ }
 {
     match find_cells(start, n, count, addresses) {
         SpanFound::Refused(f) => Effect::refuse(f),
@@ -120,7 +124,10 @@ pub fn call_contract(
     requires { ⌜ Rising count (now addresses) ⌝ }
     requires { ⌜ (guarded ≡ true → length (now marks) ≡ length (now addresses)) ⌝ }
     requires { ⌜ used ≤ length (now tape) ⌝ }
-    ensures { λ r. ⌜ ((l : List ℕ) → Means l r (λ t. onSpan (spanAmong (take count (now (addresses .entry))) start 4) (λ at. sinkWhere (partMark guarded (now (marks .entry)) at 4) (check (more used 12 (now (tape .entry))) NoCapacity (CallContract at (eqb b 1) next))))) ⌝ }
+    ensures { λ r. ⌜ ((l : List ℕ)
+        → Means l r (λ t. onSpan (spanAmong (take count (now (addresses .entry))) start 4)
+        (λ at. sinkWhere (partMark guarded (now (marks .entry)) at 4)
+        (check (more used 12 (now (tape .entry))) NoCapacity (CallContract at (eqb b 1) next))))) ⌝ }
 {
     match find_cells(start, 4, count, addresses) {
         SpanFound::Refused(f) => Effect::refuse(f),
@@ -222,7 +229,8 @@ fn load_part(
 ) -> Effect
     requires { ⌜ Rising count (now addresses) ⌝ }
     requires { ⌜ from + n ≤ length (now tape) ⌝ }
-    ensures { λ r. ⌜ ((l : List ℕ) → Means l r (λ t. loadsPart (now (tape .entry)) from n address (hasCapacity (now (addresses .entry)) count address n) next)) ⌝ }
+    ensures { λ r. ⌜ ((l : List ℕ)
+        → Means l r (λ t. loadsPart (now (tape .entry)) from n address (hasCapacity (now (addresses .entry)) count address n) next)) ⌝ }
 {
     if reaches_word_end(address, n as u64) {
         return Effect::refuse(Refusal::StoreFault);
@@ -252,7 +260,9 @@ pub fn load_tape(
 ) -> Effect
     requires { ⌜ Rising count (now addresses) ⌝ }
     requires { ⌜ used ≤ length (now tape) ⌝ }
-    ensures { λ r. ⌜ ((l : List ℕ) → Means l r (λ t. loadsTape a b (now (tape .entry)) used address (hasCapacity (now (addresses .entry)) count address (tapeCount a b)) next)) ⌝ }
+    ensures { λ r. ⌜ ((l : List ℕ)
+        → Means l r (λ t. loadsTape a b (now (tape .entry)) used address
+        (hasCapacity (now (addresses .entry)) count address (tapeCount a b)) next)) ⌝ }
 {
     if !is_on_tape(a, b, used) {
         return Effect::refuse(Refusal::TapeFault);

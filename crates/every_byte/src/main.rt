@@ -6,6 +6,8 @@ use program::binary_program::Checked;
 use rules::HexWord;
 ghost use Prim.Native.Nat.{_<_};
 
+const DIGITS: usize = 16;
+
 // A budget line and END; JMP and its op1.
 const BUDGET_TEXT: [u8; 34] = *b"................\n000000000000000b\n";
 
@@ -13,7 +15,7 @@ const FRAME_TEXT: [u8; 33] = *b"0000000000000805................\n";
 
 fn main() {
     let mut place = 0;
-    while place < 16 {
+    while place < DIGITS {
         try_bytes(*b"0123456789abcdef", place);
         try_bytes(*b"9a9a9a9a9a9a9a9a", place);
         try_bytes(*b"f00ff00ff00ff00f", place);
@@ -22,7 +24,7 @@ fn main() {
 }
 
 // Puts every byte at a place of a word.
-fn try_bytes(word: [u8; 16], place: usize)
+fn try_bytes(word: [u8; DIGITS], place: usize)
     requires { ⌜ place < 16 ⌝ }
 {
     let mut tried = word;
@@ -34,13 +36,13 @@ fn try_bytes(word: [u8; 16], place: usize)
     }
 }
 
-fn try_word(word: [u8; 16]) {
+fn try_word(word: [u8; DIGITS]) {
     let mut budget_text = BUDGET_TEXT;
     let mut frame_text = FRAME_TEXT;
     let mut i = 0;
-    while i < 16 {
+    while i < DIGITS {
         budget_text[i] = word[i];
-        frame_text[16 + i] = word[i];
+        frame_text[DIGITS + i] = word[i];
         i += 1;
     }
     let in_budget = is_program(program_text::check_budget_text(&budget_text));
@@ -74,7 +76,7 @@ fn show(read: HexWord, in_budget: bool, in_frame: bool) {
 }
 
 fn show_word(v: u64) {
-    let mut digits = [0u8; 16];
+    let mut digits = [0u8; DIGITS];
     hexadecimal::put_16(0, v, &mut digits);
     io::write_all(STDOUT_FILENO, &digits);
 }

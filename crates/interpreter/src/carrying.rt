@@ -50,8 +50,14 @@ fn load_tape(
     requires { ⌜ Ordered guarded count (now addresses) (now numbers) (now marks) ⌝ }
     requires { ⌜ from + n ≤ length (now tape) ⌝ }
     requires { ⌜ (0 < n → address + n ≤ heapEnd) ⌝ }
-    requires { ⌜ Cells.count (putMany (cellsOf count (now addresses) (now numbers)) address (part from n (now tape))) ≤ length (now addresses) ⌝ }
-    ensures { λ r. ⌜ Holding guarded (putMany (cellsOf count (now (addresses .entry)) (now (numbers .entry))) address (part from n (now (tape .entry)))) (cleanMany Cells.markCells (cellsOf count (now (addresses .entry)) (now (marks .entry))) address (part from n (now (tape .entry)))) r (now (addresses .entry)) (now (numbers .entry)) (now (marks .entry)) (now (addresses .exit)) (now (numbers .exit)) (now (marks .exit)) ⌝ }
+    requires { ⌜ Cells.count (putMany (cellsOf count (now addresses) (now numbers)) address (part from n (now tape)))
+        ≤ length (now addresses) ⌝ }
+    ensures { λ r. ⌜ Holding guarded
+        (putMany (cellsOf count (now (addresses .entry)) (now (numbers .entry))) address (part from n (now (tape .entry))))
+        (cleanMany Cells.markCells (cellsOf count (now (addresses .entry)) (now (marks .entry))) address (part from n (now (tape .entry))))
+        r
+        (now (addresses .entry)) (now (numbers .entry)) (now (marks .entry))
+        (now (addresses .exit)) (now (numbers .exit)) (now (marks .exit)) ⌝ }
 {
     let end = from + n;
     hardware::cells::store_many(
@@ -95,7 +101,9 @@ fn call_contract(
     requires { ⌜ at + 4 ≤ length (now numbers) ⌝ }
     requires { ⌜ count + 12 ≤ length (now tape) ⌝ }
     ensures { λ r. ⌜ r ≡ callAnswer delegate (part at 4 (now (numbers .entry))) ⌝ }
-    ensures { λ _. ⌜ now (tape .exit) ≡ overlay (take count (now (tape .entry)) ++ callValues «storage_addr» (part at 4 (now (numbers .entry))) delegate) (now (tape .entry)) ⌝ }
+    ensures { λ _. ⌜ now (tape .exit)
+        ≡ overlay (take count (now (tape .entry)) ++ callValues «storage_addr» (part at 4 (now (numbers .entry))) delegate)
+        (now (tape .entry)) ⌝ }
 {
     let callee = hardware::cells::read_four(at, numbers);
     let values = call_values(storage_addr, callee, delegate);
@@ -125,9 +133,16 @@ pub(crate) fn carry_out(
 ) -> Stepped
     requires { ⌜ 10 ≤ length (now values) ⌝ }
     requires { ⌜ Placed (take (counts .cells) (now addresses)) effect ⌝ }
-    requires { ⌜ Carriable (meant mark effect) (coreOf mode (take 10 (now values)) pc 0 counts (now addresses) (now numbers) (now marks) (now tape) (now output)) ⌝ }
-    ensures { λ r. ⌜ ((clk : ℕ) → CarriedOut «storage_addr» (meant mark effect) (coreOf mode (take 10 (now (values .entry))) pc clk counts (now (addresses .entry)) (now (numbers .entry)) (now (marks .entry)) (now (tape .entry)) (now (output .entry))) (r .finish) (coreAfter mode r (clkAfter (r .finish) clk) (take 10 (now (values .exit))) (now (addresses .exit)) (now (numbers .exit)) (now (marks .exit)) (now (tape .exit)) (now (output .exit)))) ⌝ }
-    ensures { λ _. ⌜ (length (now (values .exit)) ≡ length (now (values .entry))) × (drop 10 (now (values .exit)) ≡ drop 10 (now (values .entry))) ⌝ }
+    requires { ⌜ Carriable (meant mark effect)
+        (coreOf mode (take 10 (now values)) pc 0 counts (now addresses) (now numbers) (now marks) (now tape) (now output)) ⌝ }
+    ensures { λ r. ⌜ ((clk : ℕ) → CarriedOut «storage_addr» (meant mark effect)
+        (coreOf mode (take 10 (now (values .entry))) pc clk counts
+        (now (addresses .entry)) (now (numbers .entry)) (now (marks .entry)) (now (tape .entry)) (now (output .entry)))
+        (r .finish)
+        (coreAfter mode r (clkAfter (r .finish) clk) (take 10 (now (values .exit)))
+        (now (addresses .exit)) (now (numbers .exit)) (now (marks .exit)) (now (tape .exit)) (now (output .exit)))) ⌝ }
+    ensures { λ _. ⌜ (length (now (values .exit)) ≡ length (now (values .entry)))
+        × (drop 10 (now (values .exit)) ≡ drop 10 (now (values .entry))) ⌝ }
 {
     let extras = mode.extras;
     let kind = effect.kind;

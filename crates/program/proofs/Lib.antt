@@ -1,4 +1,4 @@
--- What the functions' proofs have in common; for the crates above, what follows from a fetch, and how many rows are enough.
+-- What the functions' proofs have in common; for the crates above, where a row and the slots are, and how many rows are enough.
 pub mod OperandKinds
 pub mod Frames
 pub mod Decoding

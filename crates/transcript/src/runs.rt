@@ -15,25 +15,11 @@ pub(crate) fn play_case(run: Run, line: &[u8], text: &[u8], fields: &mut Fields)
         return false;
     }
     let mut shown = *fields;
-    play_steps(
-        run,
-        step_of(fields),
-        budget_of(fields),
-        text,
-        fields,
-        &mut shown,
-    );
+    let entry = entry_of(fields);
+    play_steps(run, entry, text, fields, &mut shown);
     print(b"run ");
-    play_call(run, entry_of(fields), text, fields, &mut shown);
+    play_calls(run, entry, 1, text, fields, &mut shown);
     true
-}
-
-// The budget, which is 0 where the text has it.
-fn budget_of(fields: &Fields) -> u64 {
-    if fields[parts::BUDGET] == 0 {
-        return 0;
-    }
-    fields[parts::BUDGET + 1]
 }
 
 // The function that takes what the case gives.
@@ -41,25 +27,28 @@ fn entry_of(fields: &Fields) -> Entry {
     if fields[parts::BUDGET] == 0 {
         return Entry::BudgetText;
     }
+    let budget = fields[parts::BUDGET + 1];
     if fields[parts::WORDS] == parts::UNUSED {
-        return Entry::Text(fields[parts::BUDGET + 1]);
+        return Entry::Text(budget);
     }
-    Entry::Words(fields[parts::BUDGET + 1])
+    Entry::Words(budget)
 }
 
-// The function that takes one step of it.
-fn step_of(fields: &Fields) -> Entry {
-    if fields[parts::WORDS] == parts::UNUSED {
-        return Entry::Text(1);
+// Runs the case step after step, unless its text has the budget.
+fn play_steps(run: Run, entry: Entry, text: &[u8], start: &Fields, shown: &mut Fields) {
+    match entry {
+        Entry::Words(budget) => play_calls(run, Entry::Step, budget, text, start, shown),
+        Entry::Text(budget) => play_calls(run, Entry::Text(1), budget, text, start, shown),
+        _ => {}
     }
-    Entry::Step
 }
 
-// Calls from the start, then from what that call left, and so on while the program goes on, and shows what each call did.
-fn play_steps(run: Run, entry: Entry, count: u64, text: &[u8], start: &Fields, shown: &mut Fields) {
+// Calls from the start, then from what that call left, and so on while the program goes on, so many times at most, and shows what each
+// call did.
+fn play_calls(run: Run, entry: Entry, most: u64, text: &[u8], start: &Fields, shown: &mut Fields) {
     let mut fields = *start;
     let mut next = *start;
-    let mut left = count;
+    let mut left = most;
     while 0 < left {
         let ran = call(run, entry, text, &fields, &mut next);
         show(ran, &next, shown);
@@ -77,11 +66,4 @@ fn is_paused(answer: Answer) -> bool {
         Answer::Paused => true,
         _ => false,
     }
-}
-
-// Calls once, and shows what the call did.
-fn play_call(run: Run, entry: Entry, text: &[u8], start: &Fields, shown: &mut Fields) {
-    let mut next = *start;
-    let ran = call(run, entry, text, start, &mut next);
-    show(ran, &next, shown);
 }

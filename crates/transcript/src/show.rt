@@ -22,13 +22,12 @@ fn print_word(before: &[u8], v: u64) {
     io::print_hex(STDOUT_FILENO, v, 1);
 }
 
-// The answer's line, and what changed since it was last shown. Where a step was done the line has pc and clk.
+// The answer's line, the callee, and what changed since it was last shown.
 pub(crate) fn show(ran: Ran, fields: &Fields, shown: &mut Fields) {
+    let answer = ran.answer;
     show_answer(ran);
-    if 0 < ran.steps {
-        shown[parts::PC] = fields[parts::PC];
-        shown[parts::CLK] = fields[parts::CLK];
-    }
+    show_calling(answer);
+    note_clock(ran.steps, fields, shown);
     show_changes(b"registers", parts::REGISTERS, fields, shown);
     show_changes(b"state", parts::STATE, fields, shown);
     show_changes(b"used", parts::USED, fields, shown);
@@ -39,7 +38,7 @@ pub(crate) fn show(ran: Ran, fields: &Fields, shown: &mut Fields) {
     show_changes(b"output", parts::OUTPUT, fields, shown);
 }
 
-// The line that `solve` prints, and the callee.
+// The line that `solve` prints.
 fn show_answer(ran: Ran) {
     let answer = ran.answer;
     let machine = ran.machine;
@@ -48,6 +47,17 @@ fn show_answer(ran: Ran) {
     if let Put::Next(end) = report::print(answer, ran.steps, machine, &none[..0], &mut line) {
         print(first_bytes(&line, end));
     }
+}
+
+// Where a step was done, pc and clk are in the answer's line, and count as shown.
+fn note_clock(steps: u64, fields: &Fields, shown: &mut Fields) {
+    if 0 < steps {
+        shown[parts::PC] = fields[parts::PC];
+        shown[parts::CLK] = fields[parts::CLK];
+    }
+}
+
+fn show_calling(answer: Answer) {
     match answer {
         Answer::Calling(a, b, c, d) => show_callee(a, b, c, d),
         Answer::DelegateCalling(a, b, c, d) => show_callee(a, b, c, d),

@@ -5,16 +5,15 @@ use mathlib.Core.Bool.{true, false, _&&_}
 use mathlib.Core.Logic.{⊎-elim}
 use native.Mathlib.Omega.{arith}
 use lib.Dec.{eqb}
-use lib.ListN.{getD, take}
+use lib.ListN.{getD, take, length}
 use borrow.Author.Needs.{needs}
-use borrow.Author.Tests.{eq-eqb, ne-eqb}
-use Rattle.rules.specs.declared.Refusal.the-variants.{CellAbsent}
+use borrow.Author.Tests.{not-true, not-false}
 use Rattle.hardware.specs.declared.cells.Found.the-variants.{At, Absent}
 use Rattle.hardware.specs.Buffers.{foundOf, cellsOf}
 use Rattle.hardware.proofs.BufferLaws.{found-within}
-use Rattle.effects.specs.Effects.{SetRegister, Refuse}
+use Rattle.effects.specs.Effects.{SetRegister}
 use Rattle.effects.specs.Changes.{sinkWhere, returnsFrom}
-use Rattle.effects.proofs.CellsBelow.{next-present, next-other, next-end, first-absent, second-absent, no-second, both-present}
+use Rattle.effects.proofs.CellsBelow.{next-present, next-absent, first-absent, second-absent, no-second, both-present}
 use Rattle.effects.proofs.calls.return_from.Statement.{statement}
 use Rattle.effects.proofs.calls.return_from.Tie as tie
 
@@ -38,28 +37,52 @@ module _ (c : tie.After-known-told) where
   next-address : entry .args .frame - 1 ≡ suc (entry .args .frame - 2)
   next-address = let h = two-below in omega arith
 
-  -- where the upper one is absent
-  none-behind : foundOf (take (entry .args .count) (entry .args .addresses .now)) (entry .args .frame - 1) ≡ Absent (place + 1)
-      → let a = entry .args in
-      returnsFrom (a .guarded) (cellsOf (a .count) (a .addresses .now) (a .numbers .now)) (cellsOf (a .count) (a .addresses .now) (a .marks .now)) (a .frame)
-      ≡ Refuse CellAbsent
-  none-behind =
-      let a = entry .args in
-      first-absent (a .guarded) (a .count) (a .addresses .now) (a .numbers .now) (a .marks .now) (entry .pre) (a .frame) (place + 1)
-
--- where the upper one stands behind it
-module _ (c : tie.Else3) where
+-- where the place behind it was looked at
+module _ (c : tie.After-is-next) where
   abbrev found : tie.After-known-told
-  found = c .before .before .before
+  found = c .before
 
-  behind : place found + 1 < entry found .args .count
-  behind = let h = c .before .before .if2 .left in omega arith
+  abbrev s : tie.Start
+  s = entry found
 
-  at-next : foundOf (take (entry found .args .count) (entry found .args .addresses .now)) (entry found .args .frame - 1) ≡ At (place found + 1)
-  at-next =
-      let s = entry found in
-      next-present (s .args .count) (s .args .addresses .now) (s .pre .addresses) (s .args .frame - 2) (place found) (s .args .frame - 1) (place found + 1)
-      (at-place found) (next-address found) (omega arith) behind (c .if3 .left)
+  absent-next : c .is-next .result ≡ false → foundOf (take (s .args .count) (s .args .addresses .now)) (s .args .frame - 1) ≡ Absent (place found + 1)
+  absent-next h =
+      next-absent (s .args .count) (s .args .addresses .now) (s .pre .addresses) (s .args .frame - 2) (place found) (s .args .frame - 1)
+      (at-place found) (next-address found) (sym (c .is-next .ensures) ∙ h)
+
+  at-next : c .is-next .result ≡ true → foundOf (take (s .args .count) (s .args .addresses .now)) (s .args .frame - 1) ≡ At (place found + 1)
+  at-next h =
+      next-present (s .args .count) (s .args .addresses .now) (s .pre .addresses) (s .args .frame - 2) (place found) (s .args .frame - 1)
+      (at-place found) (next-address found) (sym (c .is-next .ensures) ∙ h)
+
+-- where the upper one stands there
+module _ (c : tie.Else2) where
+  abbrev k : tie.After-is-next
+  k = c .before
+
+  at-upper : foundOf (take (s k .args .count) (s k .args .addresses .now)) (s k .args .frame - 1) ≡ At (place (found k) + 1)
+  at-upper = at-next k (not-false (k .is-next .result) (c .if2 .left))
+
+  upper-used : place (found k) + 1 < s k .args .count
+  upper-used =
+      let a = s k .args in
+      found-within (a .count) (a .addresses .now) (s k .pre .addresses) (a .frame - 1) (place (found k) + 1) (sym at-upper)
+
+  upper-numbered : place (found k) + 1 < length (s k .args .numbers .now)
+  upper-numbered = omega (arith, upper-used, s k .pre .addresses .within, s k .pre .level)
+
+  upper-markable : s k .args .guarded ≡ true → place (found k) + 1 < length (s k .args .marks .now)
+  upper-markable g = omega (arith, upper-used, s k .pre .addresses .within, s k .pre .markLevel g)
+
+  -- what both cells say
+  returned : let a = s k .args in let i = place (found k) in
+      returnsFrom (a .guarded) (cellsOf (a .count) (a .addresses .now) (a .numbers .now)) (cellsOf (a .count) (a .addresses .now) (a .marks .now)) (a .frame)
+      ≡ sinkWhere (a .guarded && eqb (getD (a .marks .now) (i + 1) 0) 1)
+      (SetRegister 9 (getD (a .numbers .now) i 0) (a .guarded && eqb (getD (a .marks .now) i 0) 1) (getD (a .numbers .now) (i + 1) 0))
+  returned =
+      let a = s k .args in
+      both-present (a .guarded) (a .count) (a .addresses .now) (a .numbers .now) (a .marks .now) (s k .pre) (a .frame)
+      (place (found k)) (place (found k) + 1) (two-below (found k)) (at-place (found k)) at-upper
 
 refuse-requires : tie.Need-refuse-requires
 refuse-requires c κs = search needs
@@ -70,9 +93,6 @@ returns c =
     let a = s .args in
     rw (no-second (a .guarded) (a .count) (a .addresses .now) (a .numbers .now) (a .marks .now) (s .pre) (a .frame) (c .before .if1 .taken))
     (c .refuse .ensures)
-
-sub-find : tie.Need-sub-find
-sub-find c = search needs
 
 find-requires : tie.Need-find-requires
 find-requires c κs = search needs
@@ -86,8 +106,11 @@ refuse-requires-2 c κs = search needs
 enum-known-at : tie.Need-enum-known-at
 enum-known-at c = search needs
 
-sub-if2 : tie.Need-sub-if2
-sub-if2 c = let h = place-used c in omega arith
+sub-is-next : tie.Need-sub-is-next
+sub-is-next c = search needs
+
+is-next-requires : tie.Need-is-next-requires
+is-next-requires c κs = (place-used c, entry c .pre .addresses .within)
 
 refuse-requires-3 : tie.Need-refuse-requires-3
 refuse-requires-3 c κs = search needs
@@ -95,131 +118,71 @@ refuse-requires-3 c κs = search needs
 returns-2 : tie.Need-returns-2
 returns-2 c =
     let k = c .before .before in
-    let s = entry k in
-    let h : s .args .count ≤ place k + 1 = let l = c .before .if2 .taken in omega arith in
-    let e =
-    next-end (s .args .count) (s .args .addresses .now) (s .pre .addresses) (s .args .frame - 2) (place k) (s .args .frame - 1) (place k + 1)
-    (at-place k) (next-address k) (omega arith) h in
-    rw (none-behind k e) (c .refuse3 .ensures)
+    let a = s k .args in
+    let e = absent-next k (not-true (k .is-next .result) (c .before .if2 .taken)) in
+    rw (first-absent (a .guarded) (a .count) (a .addresses .now) (a .numbers .now) (a .marks .now) (s k .pre) (a .frame) (place (found k) + 1) e)
+    (c .refuse3 .ensures)
 
-add-if3 : tie.Need-add-if3
-add-if3 c = search needs
+add-high : tie.Need-add-high
+add-high c = let h = upper-used c in search needs
 
-mul-if3 : tie.Need-mul-if3
-mul-if3 c = search needs
-
-shared-slice-read-if3 : tie.Need-shared-slice-read-if3
-shared-slice-read-if3 c = search needs
-
-sub-if3 : tie.Need-sub-if3
-sub-if3 c = search needs
-
-refuse-requires-4 : tie.Need-refuse-requires-4
-refuse-requires-4 c κs = search needs
-
-returns-3 : tie.Need-returns-3
-returns-3 c =
-    let k = c .before .before .before .before in
-    let s = entry k in
-    let h : place k + 1 < s .args .count = let l = c .before .before .before .if2 .left in omega arith in
-    let e =
-    next-other (s .args .count) (s .args .addresses .now) (s .pre .addresses) (s .args .frame - 2) (place k) (s .args .frame - 1) (place k + 1)
-    (at-place k) (next-address k) (omega arith) h (c .before .if3 .taken) in
-    rw (none-behind k e) (c .refuse4 .ensures)
-
-add-if5 : tie.Need-add-if5
-add-if5 c = search needs
-
-mul-if5 : tie.Need-mul-if5
-mul-if5 c = search needs
-
-shared-slice-read-if5 : tie.Need-shared-slice-read-if5
-shared-slice-read-if5 c =
-    let k = c .before .before in
-    let h = behind k in
-    let w = entry (found k) .pre .addresses .within in
-    let l = entry (found k) .pre .markLevel (c .before .if4 .taken) in
-    omega arith
+is-marked-at-requires : tie.Need-is-marked-at-requires
+is-marked-at-requires c κs = upper-markable (c .before) (c .if3 .taken)
 
 sink-requires : tie.Need-sink-requires
 sink-requires c κs = search needs
 
--- what both cells say
-returned : (c : tie.Else3) → let a = entry (found c) .args in let i = place (found c) in
-    returnsFrom (a .guarded) (cellsOf (a .count) (a .addresses .now) (a .numbers .now)) (cellsOf (a .count) (a .addresses .now) (a .marks .now)) (a .frame)
-    ≡ sinkWhere (a .guarded && eqb (getD (a .marks .now) (i + 1) 0) 1)
-    (SetRegister 9 (getD (a .numbers .now) i 0) (a .guarded && eqb (getD (a .marks .now) i 0) 1) (getD (a .numbers .now) (i + 1) 0))
-returned c =
-    let s = entry (found c) in
-    both-present (s .args .guarded) (s .args .count) (s .args .addresses .now) (s .args .numbers .now) (s .args .marks .now) (s .pre) (s .args .frame)
-    (place (found c)) (place (found c) + 1) (two-below (found c)) (at-place (found c)) (at-next c)
-
-returns-4 : tie.Need-returns-4
+returns-3 : tie.Need-returns-3
 unfolding sinkWhere
-returns-4 c =
+returns-3 c =
     let k = c .before .before .before .before in
-    let a = entry (found k) .args in
-    let x = eqb (getD (a .marks .now) (place (found k) + 1) 0) 1 in
-    let e : (a .guarded && x) ≡ true = ap (λ t. t && x) (c .before .before .before .if4 .taken) ∙ eq-eqb _ _ (c .before .if5 .taken) in
+    let a = s (k .before) .args in
+    let x = eqb (getD (a .marks .now) (place (found (k .before)) + 1) 0) 1 in
+    let e : (a .guarded && x) ≡ true =
+    ap (λ t. t && x) (c .before .before .before .if3 .taken) ∙ sym (c .before .before .is-marked-at .ensures) ∙ c .before .if4 .taken in
     rw (returned k, e) (c .sink .ensures)
 
-mul-set-register : tie.Need-mul-set-register
-mul-set-register c = search needs
+is-marked-at-requires-2 : tie.Need-is-marked-at-requires-2
+is-marked-at-requires-2 c κs = let h = upper-markable (c .before .before) (c .if5 .taken) in omega arith
 
-shared-slice-read-set-register : tie.Need-shared-slice-read-set-register
-shared-slice-read-set-register c = search needs
+number-at-requires : tie.Need-number-at-requires
+number-at-requires c κs = let h = upper-numbered (c .before .before) in omega arith
 
-mul-set-register-2 : tie.Need-mul-set-register-2
-mul-set-register-2 c = search needs
-
-shared-slice-read-set-register-2 : tie.Need-shared-slice-read-set-register-2
-shared-slice-read-set-register-2 c =
-    let k = c .before .before .before .before in
-    let h = behind k in
-    let w = entry (found k) .pre .addresses .within in
-    let l = entry (found k) .pre .markLevel (c .before .if6 .taken) in
-    omega arith
-
-add-set-register : tie.Need-add-set-register
-add-set-register c = search needs
-
-mul-set-register-3 : tie.Need-mul-set-register-3
-mul-set-register-3 c = search needs
-
-shared-slice-read-set-register-3 : tie.Need-shared-slice-read-set-register-3
-shared-slice-read-set-register-3 c = search needs
+number-at-requires-2 : tie.Need-number-at-requires-2
+number-at-requires-2 c κs = upper-numbered (c .before .before .before)
 
 set-register-requires : tie.Need-set-register-requires
 set-register-requires c κs = search needs
 
-returns-5 : tie.Need-returns-5
-returns-5 c =
+returns-4 : tie.Need-returns-4
+returns-4 c =
     let s = c .before .before .before .before .before .before .before .before in
     let a = s .args in
     let e = sym (c .before .before .before .find .ensures) ∙ c .before .enum-told .given .1 in
     rw (second-absent (a .guarded) (a .count) (a .addresses .now) (a .numbers .now) (a .marks .now) (s .pre) (a .frame) _ e) (c .refuse2 .ensures)
 
 -- the upper cell is not marked, in a guarded run
-clean : (c : tie.Joined4) → let k = found (c .before) in
+clean : (c : tie.Joined3) → let k = found (c .before .before) in
     (entry k .args .guarded && eqb (getD (entry k .args .marks .now) (place k + 1) 0) 1) ≡ false
 clean c =
-    let s = entry (found (c .before)) .args in
-    let x = eqb (getD (s .marks .now) (place (found (c .before)) + 1) 0) 1 in
-    ⊎-elim (λ w. ap (λ t. t && x) (w .0 .taken) ∙ ne-eqb _ _ (w .2 .left)) (λ w. ap (λ t. t && x) (w .left)) (c .if4 .came)
+    let k = found (c .before .before) in
+    let x = eqb (getD (entry k .args .marks .now) (place k + 1) 0) 1 in
+    ⊎-elim (λ w. ap (λ t. t && x) (w .0 .taken) ∙ sym (w .1 .ensures) ∙ w .2 .left) (λ w. ap (λ t. t && x) (w .left)) (c .if3 .came)
 
 -- the lower one's mark
-lower : (c : tie.Joined6) → let k = found (c .before .before .before) in
-    c .if6 .set-register ≡ entry k .args .guarded && eqb (getD (entry k .args .marks .now) (place k) 0) 1
+lower : (c : tie.Joined5) → let k = found (c .before .before .before) in
+    c .if5 .mark ≡ entry k .args .guarded && eqb (getD (entry k .args .marks .now) (place k) 0) 1
 lower c =
     let k = found (c .before .before .before) in
     let x = eqb (getD (entry k .args .marks .now) (place k) 0) 1 in
-    ⊎-elim (λ w. w .2 ∙ sym (ap (λ t. t && x) (w .0 .taken)))
-    (λ w. w .1 ∙ w .0 .left ∙ sym (ap (λ t. t && x) (w .0 .left))) (c .if6 .came)
+    ⊎-elim (λ w. w .2 ∙ w .1 .ensures ∙ sym (ap (λ t. t && x) (w .0 .taken)))
+    (λ w. w .1 ∙ w .0 .left ∙ sym (ap (λ t. t && x) (w .0 .left))) (c .if5 .came)
 
-returns-6 : tie.Need-returns-6
+returns-5 : tie.Need-returns-5
 unfolding sinkWhere
-returns-6 c =
-    rw (returned (c .before .before .before .before .before), clean (c .before .before .before .before), ← lower (c .before .before))
+returns-5 c =
+    let j = c .before .before .before in
+    rw (returned (j .before .before), clean (j .before), ← lower j, ← c .before .before .number-at .ensures, ← c .before .number-at2 .ensures)
     (c .set-register .ensures)
 
 pub return-from-spec : {M : Type 1} → statement M
@@ -228,32 +191,21 @@ return-from-spec =
     (tie.spec
     refuse-requires
     returns
-    sub-find
     find-requires
     enum-told
     refuse-requires-2
     enum-known-at
-    sub-if2
+    sub-is-next
+    is-next-requires
     refuse-requires-3
     returns-2
-    add-if3
-    mul-if3
-    shared-slice-read-if3
-    sub-if3
-    refuse-requires-4
-    returns-3
-    add-if5
-    mul-if5
-    shared-slice-read-if5
+    add-high
+    is-marked-at-requires
     sink-requires
-    returns-4
-    mul-set-register
-    shared-slice-read-set-register
-    mul-set-register-2
-    shared-slice-read-set-register-2
-    add-set-register
-    mul-set-register-3
-    shared-slice-read-set-register-3
+    returns-3
+    is-marked-at-requires-2
+    number-at-requires
+    number-at-requires-2
     set-register-requires
-    returns-5
-    returns-6)
+    returns-4
+    returns-5)

@@ -32,9 +32,9 @@ can clk s = applies clk (s .pre .1 .1)
 four : (s : tie.Start) → length (s .args .storage-addr) ≡ 4
 four s = search needs
 
--- every arm begins where the last buffer is known
-abbrev start : tie.After-slice-known6 → tie.Start
-start c = c .before .before .before .before .before .before
+-- every arm begins where the buffers are known
+abbrev start : tie.After-extras → tie.Start
+start c = c .before .before .before .before .before .before .before
 
 -- what an effect of a known kind means, and where its cell is
 meant-by : (t : Bool) (a : Effect) {k : EffectKind} → a .kind ≡ k → meant t a ≡ byKind k t a

@@ -9,11 +9,11 @@ with-mark-requires c κs = search needs
 
 returns : tie.Need-returns
 unfolding marksAfter
-returns c = rw (c .before .if1 .taken) (c .with-mark .ensures .0)
+returns c = rw (c .before .if1 .taken) (λ i. record { registers = c .with-mark .ensures .0 i })
 
 returns-2 : tie.Need-returns-2
 unfolding marksAfter
-returns-2 c = rw (c .if1 .left)
+returns-2 c = rw (c .before .if1 .left)
 
 pub marks-after-spec : {M : Type 1} → statement M
 marks-after-spec = tie.close (tie.spec with-mark-requires returns returns-2)

@@ -1,13 +1,13 @@
--- `transcript::runs::play_steps` ends: each call leaves fewer.
+-- `transcript::runs::play_calls` ends: each call leaves fewer that may come.
 use borrow.Author.Needs.{needs}
-use Rattle.transcript.proofs.runs.play_steps.Statement.{statement}
-use Rattle.transcript.proofs.runs.play_steps.Tie as tie
+use Rattle.transcript.proofs.runs.play_calls.Statement.{statement}
+use Rattle.transcript.proofs.runs.play_calls.Tie as tie
 
 abbrev Inv-loop : tie.InvT-loop
-Inv-loop run entry count text start shown₀ fields₀ next₀ left₀ shown fields next left = Unit {0}
+Inv-loop run entry most text start shown₀ fields₀ next₀ left₀ shown fields next left = Unit {0}
 
 abbrev μ-loop : tie.MeasureT-loop
-μ-loop run entry count text start shown₀ fields₀ next₀ left₀ shown fields next left = left
+μ-loop run entry most text start shown₀ fields₀ next₀ left₀ shown fields next left = left
 
 loop-holds : tie.Need-loop-holds Inv-loop μ-loop
 loop-holds c = search needs
@@ -36,8 +36,8 @@ loop-again c = search needs
 returns-2 : tie.Need-returns-2 Inv-loop μ-loop
 returns-2 c = search needs
 
-pub play-steps-spec : {M : Type 1} → statement M
-play-steps-spec =
+pub play-calls-spec : {M : Type 1} → statement M
+play-calls-spec =
     tie.close
     (tie.spec
     Inv-loop
