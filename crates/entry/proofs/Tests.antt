@@ -6,7 +6,7 @@ use mathlib.Core.List.{List, [], _∷_}
 use lib.Dec.{leb}
 use lib.ListN.{length, getD}
 use borrow.Author.Tests.{lt-ltb, le-ltb, le-leb, lt-leb, eq-eqb, ne-eqb}
-use Rattle.rules.specs.Numbers.{clockEnd, cellLimit, valueLimit}
+use Rattle.rules.specs.Numbers.{clockEnd, cellLimit, valueLimit, marksEnd}
 use Rattle.rules.specs.Step.{isStorable}
 use Rattle.rules.specs.Entry.{Snapshot, GuardedSnapshot, usedAddresses, usedNumbers, usedMarks, markedRegisters, markedCells, every, risingFrom, markedBelow, all, plainEntry, markedNumbersBelow, marksEntry}
 use Rattle.rules.proofs.Laws.BoolLaws.{false-true, and-with-true}
@@ -99,7 +99,7 @@ module _ (g : GuardedSnapshot) where
   unfolding marksEntry
   marks-uneven h = all-fails _ 0 (ne-eqb _ _ h)
 
-  pub registers-beyond : 1024 ≤ g .extras .registers → marksEntry g ≡ false
+  pub registers-beyond : marksEnd ≤ g .extras .registers → marksEntry g ≡ false
   unfolding marksEntry
   registers-beyond h = all-fails _ 2 (le-ltb _ _ h)
 
@@ -113,7 +113,7 @@ module _ (g : GuardedSnapshot) where
 
   pub marks-decide : {r : Bool}
       → length (g .marks) ≡ length (g .plain .addresses)
-      → g .extras .registers < 1024
+      → g .extras .registers < marksEnd
       → markedBelow (markedRegisters g) (g .plain .machine .registers) ≡ true
       → markedBelow (markedCells g) (usedNumbers (g .plain)) ≡ true
       → r ≡ every (λ t. leb t 1) (usedMarks g)

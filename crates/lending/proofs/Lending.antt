@@ -6,9 +6,10 @@
 --     toldOf                           what is had of all parameters
 --     calls-told                       a call of a function that meets its contract
 --     ends-told, meets-told            how a walk ends, and that it meets the contract
+--     both                             two clauses of an `ensures`
 --     relends                          `&mut *s` of a slice that is passed on
 --     freed                            a local is freed
---     Whole, struct-whole              a type of plain data, as a walk sees it that moves its values whole
+--     Whole, struct-whole, enum-whole  a type of plain data, as a walk sees it that moves its values whole
 --     vals-of, tells-of                the machine values of one that is passed
 --     known, owns-whole                what is owned of a value shows what is known of it, and is made of that
 --     opens-record, closes-record      a `&mut` to plain data is opened, and closed at another value
@@ -23,7 +24,7 @@ use mir.Syntax.{Ty, tyInt, w64, tyRef, tyStruct, tcons, tnil, Lifetime, named, M
 use mir.Syntax.{Body, seq, call, assign, addrOf, aggregate, Opd as Operand, copy, Place, place, Step as PStep, field, deref}
 use mir.Val.{Val, vint, vptr, vstruct, vcons, vnil, hasTy, WT}
 use mir.Raw.{raw as rawTy}
-use base.Logic.{SProp, ent, sep, emp, id⊢, via, comm∗, fst∗, emp∗, assoc′, monoL, monoR}
+use base.Logic.{SProp, ent, sep, emp, id⊢, via, comm∗, fst∗, emp∗, assoc′, mono∗, monoL, monoR}
 use base.Stored.{Gv}
 use base.Fml.{GName, Lft, Share, flft, fat, froom, fdies, fobs, fauth, fbor, fobor, flent, fdead, fres, fsep}
 use prog.Wp.{Heap, Env, Spot, spotOf, Calls, Loops, Tables, WpFn}
@@ -44,6 +45,9 @@ use denote.Steps.{only, opens, closes, facts}
 use denote.Struct.Struct.{Plains}
 use denote.Struct.Declared.{Declared, row, fields}
 use denote.Struct.Laws as LL
+use denote.Enum.Enum.{Few, Plainss}
+use denote.Enum.Declared as Enum
+use denote.Enum.Laws as EL
 use denote.Exit.{Kept, left}
 use denote.Slice.{sliceName}
 use denote.Signature.{Slot, typeAt, typesAt}
@@ -110,6 +114,10 @@ module _ {M : Type 1} (𝓤 : URA M) (H : Heap 𝓤) (A : Atoms 𝓤) (W : Given
       (WpFn 𝓤 H (𝓣 .C) (𝓣 .Λ) f) (WpFn-mono 𝓤 H (W .laws) 𝓣 f)
       (walked 𝓤 H A T toldOf c (WpFn 𝓤 H (𝓣 .C) (𝓣 .Λ) f) sp tl (λ κs qs bounds a g are.
       via 𝓤 _ (fst∗ 𝓤 _ (c κs a .requires g)) (walk κs qs bounds a g are)))
+
+-- two clauses are shown
+pub both : {M : Type 1} (𝓤 : URA M) {P Q : SProp 𝓤} → ent 𝓤 (emp 𝓤) P → ent 𝓤 (emp 𝓤) Q → ent 𝓤 (emp 𝓤) (sep 𝓤 P Q)
+both 𝓤 p q = via 𝓤 (sep 𝓤 (emp 𝓤) (emp 𝓤)) (emp∗ 𝓤 (emp 𝓤)) (mono∗ 𝓤 p q)
 
 -- ---- statements and locals
 -- a slice's type and machine value, spelled so that antt finds their parts
@@ -198,6 +206,18 @@ struct-whole D L p τ e = record {
   makes = λ 𝓤 H A W h is. LL.makes D p 𝓤 H A h (LL.vals D L h) is;
   typed = λ 𝓤 H A W h is.
       subst (λ (ts : List Ty). Typed ts (LL.vals D L h)) e (LL.lawful D L 𝓤 H A W .typed h (LL.vals D L h) is) .0;
+}
+
+abbrev pub enum-whole : (D : Enum.Declared) (L : EL.Laws D) → Plainss (Enum.variants D) → Few (Enum.shape D)
+    → (τ : Ty) → Enum.row D .mir ≡ τ ∷ [] → Whole (Enum.row D) τ
+enum-whole D L p few τ e = record {
+  val = EL.val D L;
+  Fits = λ h. Is (Enum.row D) h (EL.vals D L h);
+  mir-is = e;
+  learns = λ h vs is. (EL.tells D L h vs is, subst (Is (Enum.row D) h) (EL.tells D L h vs is) is);
+  makes = λ 𝓤 H A W h is. EL.makes D p 𝓤 H A h (EL.vals D L h) is;
+  typed = λ 𝓤 H A W h is.
+      subst (λ (ts : List Ty). Typed ts (EL.vals D L h)) e (EL.lawful D L 𝓤 H A W few .typed h (EL.vals D L h) is) .0;
 }
 
 -- the machine values of one that is passed, and that owning it tells them

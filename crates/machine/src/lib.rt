@@ -25,17 +25,6 @@ pub struct Answered {
     pub steps: u64,
 }
 
-// The answer and the steps of a run.
-fn answered(ran: Ran) -> Answered
-    ensures { λ r. ⌜ r ≡ record { answer = ran .answer; steps = ran .steps } ⌝ }
-{
-    let answer = ran.answer;
-    Answered {
-        answer,
-        steps: ran.steps,
-    }
-}
-
 // Takes one step of a program of bare words, where the machine is kept.
 pub fn step(
     words: &[u64],
@@ -51,7 +40,11 @@ pub fn step(
 {
     let ran = executor::plain::step_words(words, *machine, addresses, numbers, tape, output);
     *machine = ran.machine;
-    answered(ran)
+    let answer = ran.answer;
+    Answered {
+        answer,
+        steps: ran.steps,
+    }
 }
 
 // Steps a machine by value: lends it to `step`.
@@ -89,9 +82,11 @@ pub fn guarded_step(
     tape: &mut [u64],
     output: &mut [u64],
 ) -> Answered
-    ensures { λ r. ⌜ guardedStepped (now (machine .exit)) r (now (addresses .exit)) (now (numbers .exit)) (now (marks .exit)) (now (tape .exit)) (now (output .exit))
+    ensures { λ r. ⌜ guardedStepped (now (machine .exit)) r
+        (now (addresses .exit)) (now (numbers .exit)) (now (marks .exit)) (now (tape .exit)) (now (output .exit))
         ≡ guardedWords (now (words .entry)) 1
-        (recordSnapshot (now (machine .entry)) (now (addresses .entry)) (now (numbers .entry)) (now (marks .entry)) (now (tape .entry)) (now (output .entry))) ⌝ }
+        (recordSnapshot (now (machine .entry))
+        (now (addresses .entry)) (now (numbers .entry)) (now (marks .entry)) (now (tape .entry)) (now (output .entry))) ⌝ }
 {
     let kept = *machine;
     let plain = kept.machine;
@@ -110,7 +105,11 @@ pub fn guarded_step(
         machine: left,
         extras: ran.extras,
     };
-    answered(ran)
+    let answer = ran.answer;
+    Answered {
+        answer,
+        steps: ran.steps,
+    }
 }
 
 // Steps a guarded machine by value: lends it to `guarded_step`.
@@ -123,9 +122,11 @@ pub fn lend_and_step_guarded(
     tape: &mut [u64],
     output: &mut [u64],
 ) -> Ran
-    ensures { λ r. ⌜ guardedCalled r (now (addresses .exit)) (now (numbers .exit)) (now (marks .exit)) (now (tape .exit)) (now (output .exit))
+    ensures { λ r. ⌜ guardedCalled r
+        (now (addresses .exit)) (now (numbers .exit)) (now (marks .exit)) (now (tape .exit)) (now (output .exit))
         ≡ guardedWords (now (words .entry)) 1
-        (recordSnapshot machine (now (addresses .entry)) (now (numbers .entry)) (now (marks .entry)) (now (tape .entry)) (now (output .entry))) ⌝ }
+        (recordSnapshot machine
+        (now (addresses .entry)) (now (numbers .entry)) (now (marks .entry)) (now (tape .entry)) (now (output .entry))) ⌝ }
 {
     let mut record = machine;
     let answered = guarded_step(words, &mut record, addresses, numbers, marks, tape, output);

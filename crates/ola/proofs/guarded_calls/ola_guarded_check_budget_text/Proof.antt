@@ -1,4 +1,4 @@
--- `ola::guarded_calls::ola_guarded_check_budget_text` meets its contract: the machine is read from its record, and the answer's record is written.
+-- `ola::guarded_calls::ola_guarded_check_budget_text` meets its contract: the machine and the extras are read from their records, and the answer's record is written.
 use Rattle.rules.specs.Calls.{guardedCall}
 use Rattle.ola.proofs.LeftLaws.{guarded-checked}
 use borrow.Author.Needs.{needs}
@@ -8,6 +8,9 @@ use Rattle.ola.proofs.guarded_calls.ola_guarded_check_budget_text.Tie a
 machine-of-requires : tie.Need-machine-of-requires
 machine-of-requires c κs = search needs
 
+marks-of-requires : tie.Need-marks-of-requires
+marks-of-requires c κs = search needs
+
 check-budget-text-requires : tie.Need-check-budget-text-requires
 check-budget-text-requires c κs = search needs
 
@@ -15,8 +18,19 @@ answer-record-requires : tie.Need-answer-record-requires
 answer-record-requires c κs = search needs
 
 returns : tie.Need-returns
-returns c = guarded-checked _ (guardedCall _ 0) (c .before .before .machine-of .ensures) (c .before .check-budget-text .ensures) (c .answer-record .ensures)
+returns c =
+    guarded-checked _ (guardedCall _ 0)
+    (c .before .before .before .before .machine-of .ensures)
+    (c .before .before .marks-of .ensures)
+    (c .before .check-budget-text .ensures)
+    (c .answer-record .ensures)
 
 pub ola-guarded-check-budget-text-spec : {M : Type 1} → statement M
 ola-guarded-check-budget-text-spec =
-    tie.close (tie.spec machine-of-requires check-budget-text-requires answer-record-requires returns)
+    tie.close
+    (tie.spec
+    machine-of-requires
+    marks-of-requires
+    check-budget-text-requires
+    answer-record-requires
+    returns)

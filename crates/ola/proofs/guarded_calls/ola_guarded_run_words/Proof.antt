@@ -1,4 +1,4 @@
--- `ola::guarded_calls::ola_guarded_run_words` meets its contract: the machine is read from its record, the call is made, and both records are written.
+-- `ola::guarded_calls::ola_guarded_run_words` meets its contract: the machine and the extras are read from their records, the call is made, and all three records are written.
 use Rattle.rules.specs.Calls.{guardedWords}
 use Rattle.ola.proofs.LeftLaws.{guarded-left}
 use borrow.Author.Needs.{needs}
@@ -8,6 +8,9 @@ use Rattle.ola.proofs.guarded_calls.ola_guarded_run_words.Tie as tie
 machine-of-requires : tie.Need-machine-of-requires
 machine-of-requires c κs = search needs
 
+marks-of-requires : tie.Need-marks-of-requires
+marks-of-requires c κs = search needs
+
 run-words-requires : tie.Need-run-words-requires
 run-words-requires c κs = search needs
 
@@ -16,6 +19,9 @@ answer-record-requires c κs = search needs
 
 machine-record-requires : tie.Need-machine-record-requires
 machine-record-requires c κs = search needs
+
+marks-record-requires : tie.Need-marks-record-requires
+marks-record-requires c κs = search needs
 
 same-length : tie.Need-same-length
 same-length c = search needs
@@ -33,16 +39,25 @@ same-length-5 : tie.Need-same-length-5
 same-length-5 c = search needs
 
 returns : tie.Need-returns
-returns c = guarded-left _ (guardedWords _ _) (c .before .before .before .before .before .before .before .before .before .before .before .before .before .before .before .before .before .before .before .before .machine-of .ensures) (c .before .before .before .before .before .before .before .before .before .before .before .before .before .run-words .ensures) (c .before .answer-record .ensures) (c .machine-record .ensures)
+returns c =
+    guarded-left _ (guardedWords _ _)
+    (c .before .before .before .before .before .before .before .before .before .before .before .before .before .before .before .before .before .before .before .before .before .before .before .machine-of .ensures)
+    (c .before .before .before .before .before .before .before .before .before .before .before .before .before .before .before .before .before .before .before .before .before .marks-of .ensures)
+    (c .before .before .before .before .before .before .before .before .before .before .before .before .before .before .before .run-words .ensures)
+    (c .before .before .before .answer-record .ensures)
+    (c .before .before .machine-record .ensures)
+    (c .marks-record .ensures)
 
 pub ola-guarded-run-words-spec : {M : Type 1} → statement M
 ola-guarded-run-words-spec =
     tie.close
     (tie.spec
     machine-of-requires
+    marks-of-requires
     run-words-requires
     answer-record-requires
     machine-record-requires
+    marks-record-requires
     same-length
     same-length-2
     same-length-3

@@ -1,4 +1,4 @@
--- `ola::guarded_calls::ola_guarded_step_words` meets its contract: the machine is read from its record and lent, and both records are written.
+-- `ola::guarded_calls::ola_guarded_step_words` meets its contract: the machine and the extras are read from their records and lent, and all three records are written.
 use Rattle.rules.specs.Calls.{guardedWords}
 use Rattle.ola.proofs.LeftLaws.{guarded-left}
 use borrow.Author.Needs.{needs}
@@ -8,6 +8,9 @@ use Rattle.ola.proofs.guarded_calls.ola_guarded_step_words.Tie as tie
 machine-of-requires : tie.Need-machine-of-requires
 machine-of-requires c κs = search needs
 
+marks-of-requires : tie.Need-marks-of-requires
+marks-of-requires c κs = search needs
+
 lend-and-step-guarded-requires : tie.Need-lend-and-step-guarded-requires
 lend-and-step-guarded-requires c κs = search needs
 
@@ -16,6 +19,9 @@ answer-record-requires c κs = search needs
 
 machine-record-requires : tie.Need-machine-record-requires
 machine-record-requires c κs = search needs
+
+marks-record-requires : tie.Need-marks-record-requires
+marks-record-requires c κs = search needs
 
 same-length : tie.Need-same-length
 same-length c = search needs
@@ -34,22 +40,24 @@ same-length-5 c = search needs
 
 returns : tie.Need-returns
 returns c =
-    let s = c .before .before .before .before .before .before .before .before .before .before .before .before .before .before .before .lend-and-step-guarded .result in
-    guarded-left
-    (record { answer = s .answered .answer; steps = s .answered .steps; machine = s .machine .machine; «register_marks» = s .machine .«register_marks» })
-    (guardedWords _ _)
-    (c .before .before .before .before .before .before .before .before .before .before .before .before .before .before .before .before .before .before .before .before .before .before .machine-of .ensures)
+    guarded-left _ (guardedWords _ 1)
+    (c .before .before .before .before .before .before .before .before .before .before .before .before .before .before .before .before .before .before .before .before .before .before .before .machine-of .ensures)
+    (c .before .before .before .before .before .before .before .before .before .before .before .before .before .before .before .before .before .before .before .before .before .marks-of .ensures)
     (c .before .before .before .before .before .before .before .before .before .before .before .before .before .before .before .lend-and-step-guarded .ensures)
-    (c .before .answer-record .ensures) (c .machine-record .ensures)
+    (c .before .before .before .answer-record .ensures)
+    (c .before .before .machine-record .ensures)
+    (c .marks-record .ensures)
 
 pub ola-guarded-step-words-spec : {M : Type 1} → statement M
 ola-guarded-step-words-spec =
     tie.close
     (tie.spec
     machine-of-requires
+    marks-of-requires
     lend-and-step-guarded-requires
     answer-record-requires
     machine-record-requires
+    marks-record-requires
     same-length
     same-length-2
     same-length-3

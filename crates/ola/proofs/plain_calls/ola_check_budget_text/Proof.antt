@@ -15,8 +15,13 @@ answer-record-requires : tie.Need-answer-record-requires
 answer-record-requires c κs = search needs
 
 returns : tie.Need-returns
-returns c = plain-checked _ (plainCall _ 0) (c .before .before .machine-of .ensures) (c .before .check-budget-text .ensures) (c .answer-record .ensures)
+returns c =
+    plain-checked _ (plainCall _ 0)
+    (c .before .before .machine-of .ensures)
+    (c .before .check-budget-text .ensures)
+    (c .answer-record .ensures)
 
 pub ola-check-budget-text-spec : {M : Type 1} → statement M
 ola-check-budget-text-spec =
-    tie.close (tie.spec machine-of-requires check-budget-text-requires answer-record-requires returns)
+    tie.close
+    (tie.spec machine-of-requires check-budget-text-requires answer-record-requires returns)

@@ -15,7 +15,11 @@ answer-record-requires : tie.Need-answer-record-requires
 answer-record-requires c κs = search needs
 
 returns : tie.Need-returns
-returns c = plain-checked _ (plainText _ 0) (c .before .before .machine-of .ensures) (c .before .check-text .ensures) (c .answer-record .ensures)
+returns c =
+    plain-checked _ (plainText _ 0)
+    (c .before .before .machine-of .ensures)
+    (c .before .check-text .ensures)
+    (c .answer-record .ensures)
 
 pub ola-check-text-spec : {M : Type 1} → statement M
 ola-check-text-spec =

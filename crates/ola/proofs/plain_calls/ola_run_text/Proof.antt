@@ -30,7 +30,13 @@ same-length-4 : tie.Need-same-length-4
 same-length-4 c = search needs
 
 returns : tie.Need-returns
-returns c = plain-left _ (plainText _ _) (c .before .before .before .before .before .before .before .before .before .before .before .before .before .before .before .before .machine-of .ensures) (c .before .before .before .before .before .before .before .before .before .before .before .run-text .ensures) (c .before .answer-record .ensures) (c .machine-record .ensures)
+returns c =
+    let run = c .before .before .before .before .before .before .before .before .before .before .before .run-text in
+    plain-left (run .result) (plainText _ _)
+    (c .before .before .before .before .before .before .before .before .before .before .before .before .before .before .before .before .machine-of .ensures)
+    (run .ensures .0)
+    (c .before .answer-record .ensures)
+    (c .machine-record .ensures)
 
 pub ola-run-text-spec : {M : Type 1} → statement M
 ola-run-text-spec =

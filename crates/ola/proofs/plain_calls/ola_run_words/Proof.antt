@@ -30,7 +30,13 @@ same-length-4 : tie.Need-same-length-4
 same-length-4 c = search needs
 
 returns : tie.Need-returns
-returns c = plain-left _ (plainWords _ _) (c .before .before .before .before .before .before .before .before .before .before .before .before .before .before .before .before .machine-of .ensures) (c .before .before .before .before .before .before .before .before .before .before .before .run-words .ensures) (c .before .answer-record .ensures) (c .machine-record .ensures)
+returns c =
+    let run = c .before .before .before .before .before .before .before .before .before .before .before .run-words in
+    plain-left (run .result) (plainWords _ _)
+    (c .before .before .before .before .before .before .before .before .before .before .before .before .before .before .before .before .machine-of .ensures)
+    (run .ensures .0)
+    (c .before .answer-record .ensures)
+    (c .machine-record .ensures)
 
 pub ola-run-words-spec : {M : Type 1} → statement M
 ola-run-words-spec =

@@ -31,11 +31,12 @@ same-length-4 c = search needs
 
 returns : tie.Need-returns
 returns c =
-    let s = c .before .before .before .before .before .before .before .before .before .before .before .before .lend-and-step .result in
-    plain-left (record { answer = s .answered .answer; steps = s .answered .steps; machine = s .machine }) (plainWords _ _)
-    (c .before .before .before .before .before .before .before .before .before .before .before .before .before .before .before .before .before .machine-of .ensures)
-    (c .before .before .before .before .before .before .before .before .before .before .before .before .lend-and-step .ensures)
-    (c .before .answer-record .ensures) (c .machine-record .ensures)
+    let run = c .before .before .before .before .before .before .before .before .before .before .before .lend-and-step in
+    plain-left (run .result) (plainWords _ 1)
+    (c .before .before .before .before .before .before .before .before .before .before .before .before .before .before .before .before .machine-of .ensures)
+    (run .ensures .0)
+    (c .before .answer-record .ensures)
+    (c .machine-record .ensures)
 
 pub ola-step-words-spec : {M : Type 1} → statement M
 ola-step-words-spec =
