@@ -4,6 +4,7 @@ use mathlib.Core.Path.{_≡_, refl, ap, subst, _∙_}
 use mathlib.Core.List.{List, []}
 use lib.ListN.{replicate}
 use Rattle.rules.specs.declared.Machine.{Machine}
+use Rattle.rules.specs.declared.Ran.{Ran}
 use Rattle.rules.specs.Numbers.{cellLimit, valueLimit}
 use Rattle.rules.specs.Answers.{Meaning, outcome, refusal, meaning}
 use Rattle.rules.specs.Calls.{plainBudgetText}
@@ -11,8 +12,7 @@ use Rattle.rules.specs.Solve.{printed, solveStart, solve}
 use Rattle.hexadecimal.specs.declared.Put.{Put}
 use Rattle.hexadecimal.specs.Writing.{Writes}
 use Rattle.report.specs.ReportLines.{reported}
-use Rattle.executor.specs.declared.Called.{Called}
-use Rattle.executor.specs.Calling.{snapshot, called}
+use Rattle.rules.specs.Handed.{snapshot, called}
 
 starts : (m : Machine) → m ≡ solveStart .machine
     → snapshot m (replicate 2048 0) (replicate 2048 0) (replicate 4096 0) (replicate 4096 0) ≡ solveStart
@@ -27,12 +27,12 @@ unfolding printed
 shows (outcome n vs) steps m xs ns tape output = refl
 shows (refusal n vs) steps m xs ns tape output = refl
 
-shown : (r : Called) (xs ns tape output : List ℕ)
+shown : (r : Ran) (xs ns tape output : List ℕ)
     → printed (reported (r .answer) (r .steps) (r .machine) output) ≡ printed (called r xs ns tape output)
 unfolding reported
 shown r xs ns tape output = shows (meaning (r .answer)) (r .steps) (r .machine) xs ns tape output
 
-pub solved : (input : List ℕ) (m : Machine) (r : Called) (xs ns tape output lines after : List ℕ) (put : Put) → m ≡ solveStart .machine
+pub solved : (input : List ℕ) (m : Machine) (r : Ran) (xs ns tape output lines after : List ℕ) (put : Put) → m ≡ solveStart .machine
     → called r xs ns tape output ≡ plainBudgetText input (snapshot m (replicate 2048 0) (replicate 2048 0) (replicate 4096 0) (replicate 4096 0))
     → Writes (printed (reported (r .answer) (r .steps) (r .machine) output)) lines 0 put after
     → Writes (solve input) lines 0 put after

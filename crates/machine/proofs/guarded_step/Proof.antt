@@ -77,12 +77,28 @@ module _ {M : Type 1} (𝓤 : URA M) (H : Heap 𝓤) (A : Atoms 𝓤) (W : Given
 
     -- what the two contracts bind outside
     abbrev bound : Walk .Ghost
-    bound = (((κw, (κ, κs)), (qw, (q, qs)), tt, (words, (record { ptr = (b, o); name = γ; now = h }, slices)),
-        (slice-vals words, (vptr b o ∷ [], guarded-slices-at slices))), tt)
+    bound = (
+      (
+        (κw, (κ, κs)),
+        (qw, (q, qs)),
+        tt,
+        (words, (record { ptr = (b, o); name = γ; now = h }, slices)),
+        (slice-vals words, (vptr b o ∷ [], guarded-slices-at slices)),
+      ),
+      tt,
+    )
 
     abbrev bound-callee : Callee .Ghost
-    bound-callee = (((κw, κs), (qw, qs), tt, (words, (h .machine, (h .extras, slices))),
-        (slice-vals words, (the-machine .val (h .machine) ∷ [], (the-marks .val (h .extras) ∷ [], guarded-slices-at slices)))), tt)
+    bound-callee = (
+      (
+        (κw, κs),
+        (qw, qs),
+        tt,
+        (words, (h .machine, (h .extras, slices))),
+        (slice-vals words, (the-machine .val (h .machine) ∷ [], (the-marks .val (h .extras) ∷ [], guarded-slices-at slices))),
+      ),
+      tt,
+    )
 
     -- what the callee says of its result and of the buffers' last lists
     abbrev Said : Ran → Lasts callee.ended (κw, κs) (words, (h .machine, (h .extras, slices))) → Type 0

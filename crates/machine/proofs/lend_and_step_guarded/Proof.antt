@@ -82,8 +82,16 @@ module _ {M : Type 1} (𝓤 : URA M) (H : Heap 𝓤) (A : Atoms 𝓤) (W : Given
       lent = record { ptr = (l, 0); name = δ; now = h }
 
       abbrev bound-callee : Callee .Ghost
-      bound-callee = (((κw, (ν ∷ [], κs)), (qw, (fullShare, qs)), tt, (words, (lent, slices)),
-          (slice-vals words, (vptr l 0 ∷ [], guarded-slices-at slices))), tt)
+      bound-callee = (
+        (
+          (κw, (ν ∷ [], κs)),
+          (qw, (fullShare, qs)),
+          tt,
+          (words, (lent, slices)),
+          (slice-vals words, (vptr l 0 ∷ [], guarded-slices-at slices)),
+        ),
+        tt,
+      )
 
       -- what the callee says of its result, of the last record and of the buffers' last lists
       abbrev Said : Answered → Lasts callee.ended (κw, (ν ∷ [], κs)) (words, (lent, slices)) → Type 0

@@ -73,8 +73,16 @@ module _ {M : Type 1} (𝓤 : URA M) (H : Heap 𝓤) (A : Atoms 𝓤) (W : Given
 
     -- what the two contracts bind outside
     abbrev bound : Walk .Ghost
-    bound = (((κw, (κ, κs)), (qw, (q, qs)), tt, (words, (record { ptr = (b, o); name = γ; now = h }, slices)),
-        (slice-vals words, (vptr b o ∷ [], slices-at slices))), tt)
+    bound = (
+      (
+        (κw, (κ, κs)),
+        (qw, (q, qs)),
+        tt,
+        (words, (record { ptr = (b, o); name = γ; now = h }, slices)),
+        (slice-vals words, (vptr b o ∷ [], slices-at slices)),
+      ),
+      tt,
+    )
 
     abbrev bound-callee : Callee .Ghost
     bound-callee = (((κw, κs), (qw, qs), tt, (words, (h, slices)), (slice-vals words, (the-machine .val h ∷ [], slices-at slices))), tt)
