@@ -28,11 +28,12 @@ ghost use Rattle.calling.specs.ModeCalls.{modeCall, handed, Unmarked};
 fn refuse(mode: Mode, machine: Machine, refusal: Refusal) -> Ran
     ensures { λ r. ⌜ r ≡ record { answer = Refused refusal; steps = 0; machine = machine; extras = mode .extras } ⌝ }
 {
+    let extras = mode.extras;
     Ran {
         answer: Answer::Refused(refusal),
         steps: 0,
         machine,
-        extras: mode.extras,
+        extras,
     }
 }
 

@@ -9,6 +9,7 @@ use lib.ListN.{length, take, drop, set, length-drop, length-set}
 use lib.Seq.{drop-drop, take-set-le, drop-set-add, take-suc-set}
 use Rattle.rules.specs.declared.HexWord.{HexWord}
 use Rattle.rules.specs.declared.HexWord.the-variants.{Word, NotHex}
+use Rattle.rules.specs.Numbers.{wordLimit}
 use Rattle.rules.specs.Hexadecimal.{wordOf}
 use Rattle.rules.specs.Text.{consWord, joinedWords}
 use Rattle.program_text.specs.TextLines.{part}
@@ -29,11 +30,11 @@ after-nil (some ws) = refl
 -- what is known after i of the words: those are in the buffer behind the ones in use
 pub record Joined (t : List ℕ) (count used : ℕ) (before words : List ℕ) (i : ℕ) : Type 0 where
   pub within : i ≤ count
-  pub size : length words ≡ 2048
+  pub size : length words ≡ wordLimit
   pub kept : take used words ≡ take used before
   pub joined : joinedWords count t ≡ after (part used i words) (joinedWords (count - i) (drop (16 * i) t))
 
-pub joined-none : (t : List ℕ) (count used : ℕ) (words : List ℕ) → length words ≡ 2048 → Joined t count used words words 0
+pub joined-none : (t : List ℕ) (count used : ℕ) (words : List ℕ) → length words ≡ wordLimit → Joined t count used words words 0
 joined-none t count used words s =
     let e : count - 0 ≡ count = omega arith in
     record { within = omega arith; size = s; kept = refl; joined = rw e (after-nil (joinedWords count t)) }
@@ -44,7 +45,7 @@ next-is : (t : List ℕ) (left less i : ℕ) (v : HexWord) → left ≡ less + 1
 unfolding joinedWords
 next-is t left less i v e m w = rw (e, add-one less, drop-drop 16 (16 * i) t, m, w)
 
-pub joined-next : {t before words : List ℕ} {count used i : ℕ} (v : ℕ) → Joined t count used before words i → i < count → used + count ≤ 2048
+pub joined-next : {t before words : List ℕ} {count used i : ℕ} (v : ℕ) → Joined t count used before words i → i < count → used + count ≤ wordLimit
     → wordOf (take 16 (drop (16 * i) t)) ≡ Word v
     → Joined t count used before (set words (used + i) v) (i + 1)
 joined-next {t} {before} {words} {count} {used} {i} v j h fits e =

@@ -6,7 +6,7 @@ use mathlib.Core.Option.{none, some}
 use Prim.Native.Nat.{ℕ, suc, _+_, _*_, _-_, _≤_, _<_}
 use lib.Dec.{eqb}
 use lib.ListN.{length, take, drop, getD}
-use Rattle.rules.specs.Numbers.{choose}
+use Rattle.rules.specs.Numbers.{wordLimit, choose}
 use Rattle.rules.specs.Frames.{valueCount, frameFits, instructionOf}
 use Rattle.rules.specs.Text.{lineFeed, ended, linesOf, joinedWords, frameOfLine}
 use Rattle.rules.specs.Text as Text
@@ -41,7 +41,7 @@ part from count ws = take count (drop from ws)
 -- joined words are read into a buffer behind those in use, or some character is no digit
 abbrev pub ReadsWords : List ℕ → ℕ → ℕ → List ℕ → List ℕ → Bool → Type 0
 ReadsWords l count used before after true =
-    (joinedWords count l ≡ some (part used count after)) × (take used after ≡ take used before) × (length after ≡ 2048)
+    (joinedWords count l ≡ some (part used count after)) × (take used after ≡ take used before) × (length after ≡ wordLimit)
 ReadsWords l count used before after false = joinedWords count l ≡ none
 
 -- a line's words are those of a well formed frame, behind those in use
@@ -52,7 +52,7 @@ pub record FrameRead (l : List ℕ) (used : ℕ) (before after : List ℕ) (coun
   pub whole : length (part used count after) ≡ count
   pub long : length l ≡ 16 * count
   pub kept : take used after ≡ take used before
-  pub size : length after ≡ 2048
+  pub size : length after ≡ wordLimit
 
 abbrev pub ReadsLine : List ℕ → ℕ → List ℕ → List ℕ → Line → Type 0
 ReadsLine l used before after (Words count) = FrameRead l used before after count

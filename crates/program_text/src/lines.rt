@@ -1,6 +1,7 @@
 // Lines of a text, each ended by a line feed.
 use hexadecimal::eight;
 use program::binary_program::FRAME_LIMIT;
+use program::binary_program::WORD_LIMIT;
 use program::binary_program::frame_length;
 use rules::HexWord;
 use rules::Refusal;
@@ -9,7 +10,7 @@ ghost use Prim.Native.Nat.{_+_, _*_, _-_, _≤_, _<_};
 ghost use lib.Dec.{ltb, leb};
 ghost use lib.ListN.{length, take, drop};
 ghost use Rattle.rules.specs.declared.Refusal.the-variants.{BadLength, MalformedFrame};
-ghost use Rattle.rules.specs.Numbers.{choose};
+ghost use Rattle.rules.specs.Numbers.{wordLimit, choose};
 ghost use Rattle.rules.specs.Text.{linesOf};
 ghost use Rattle.program_text.specs.TextLines.{lineLength, WholeWords, FrameEnd, ReadsWords, ReadsLine, ReadsFrame};
 
@@ -79,7 +80,8 @@ fn more_lines(text: &[u8], from: usize, limit: usize) -> bool
 // The refusal of a program whose line of a number is malformed: that there are too many lines goes before.
 pub(crate) fn malformed(text: &[u8], next: usize, number: usize) -> Refusal
     requires { ⌜ (next ≤ length (now text)) × (number ≤ 512) ⌝ }
-    ensures { λ r. ⌜ r ≡ choose (leb (number + length (linesOf (drop next (now (text .entry))))) 512) (MalformedFrame number) BadLength ⌝ }
+    ensures { λ r. ⌜ r
+        ≡ choose (leb (number + length (linesOf (drop next (now (text .entry))))) 512) (MalformedFrame number) BadLength ⌝ }
 {
     if more_lines(text, next, FRAME_LIMIT - number) {
         return Refusal::BadLength;
@@ -90,7 +92,8 @@ pub(crate) fn malformed(text: &[u8], next: usize, number: usize) -> Refusal
 // The same of the line at a place, after frames that are well formed.
 pub(crate) fn malformed_line(text: &[u8], at: usize, frames: usize) -> Refusal
     requires { ⌜ (at < length (now text)) × (frames < 512) ⌝ }
-    ensures { λ r. ⌜ r ≡ choose (leb (frames + length (linesOf (drop at (now (text .entry))))) 512) (MalformedFrame (frames + 1)) BadLength ⌝ }
+    ensures { λ r. ⌜ r
+        ≡ choose (leb (frames + length (linesOf (drop at (now (text .entry))))) 512) (MalformedFrame (frames + 1)) BadLength ⌝ }
 {
     let end = line_end(text, at);
     if end == text.len() {
@@ -100,9 +103,9 @@ pub(crate) fn malformed_line(text: &[u8], at: usize, frames: usize) -> Refusal
 }
 
 // Reads words of 16 digits each from a place on into the buffer; false where some character is no digit.
-fn read_words(text: &[u8], at: usize, count: usize, used: usize, words: &mut [u64; 2048]) -> bool
+fn read_words(text: &[u8], at: usize, count: usize, used: usize, words: &mut [u64; WORD_LIMIT]) -> bool
     requires { ⌜ at + 16 * count ≤ length (now text) ⌝ }
-    requires { ⌜ (used + count ≤ 2048) × (length (now words) ≡ 2048) ⌝ }
+    requires { ⌜ (used + count ≤ wordLimit) × (length (now words) ≡ wordLimit) ⌝ }
     ensures { λ r. ⌜ ReadsWords (drop at (now (text .entry))) count used (now (words .entry)) (now (words .exit)) r ⌝ }
 {
     let mut i = 0;
@@ -120,10 +123,10 @@ fn read_words(text: &[u8], at: usize, count: usize, used: usize, words: &mut [u6
 }
 
 // Reads a line of one to four words, from its start to its line feed.
-fn read_line(text: &[u8], at: usize, end: usize, used: usize, words: &mut [u64; 2048]) -> Line
+fn read_line(text: &[u8], at: usize, end: usize, used: usize, words: &mut [u64; WORD_LIMIT]) -> Line
     requires { ⌜ (at ≤ end) × (end ≤ length (now text)) ⌝ }
     requires { ⌜ WholeWords (end - at) ⌝ }
-    requires { ⌜ (used + 4 ≤ 2048) × (length (now words) ≡ 2048) ⌝ }
+    requires { ⌜ (used + 4 ≤ wordLimit) × (length (now words) ≡ wordLimit) ⌝ }
     ensures { λ r. ⌜ ReadsLine (take (end - at) (drop at (now (text .entry)))) used (now (words .entry)) (now (words .exit)) r ⌝ }
 {
     let count = (end - at) / 16;
@@ -138,9 +141,9 @@ fn read_line(text: &[u8], at: usize, end: usize, used: usize, words: &mut [u64; 
 
 // Reads the line at a place, if it is ended and a frame's. Its digits are read once: that no line feed stands among them need not be
 // looked for.
-pub(crate) fn read_frame(text: &[u8], at: usize, used: usize, words: &mut [u64; 2048]) -> Line
+pub(crate) fn read_frame(text: &[u8], at: usize, used: usize, words: &mut [u64; WORD_LIMIT]) -> Line
     requires { ⌜ at < length (now text) ⌝ }
-    requires { ⌜ (used + 4 ≤ 2048) × (length (now words) ≡ 2048) ⌝ }
+    requires { ⌜ (used + 4 ≤ wordLimit) × (length (now words) ≡ wordLimit) ⌝ }
     ensures { λ r. ⌜ ReadsFrame (now (text .entry)) at used (now (words .entry)) (now (words .exit)) r ⌝ }
 {
     let end = frame_end(text, at);

@@ -43,7 +43,7 @@ returns-2 c =
     let w = c .before .before .before .before in
     let s = w .before .before .before in
     let a = s .args in
-    read-other (a .text .now) (a .words .now) (w .read-words .last .1 .1 .1 .0) (a .at) (a .end) (a .used) ((a .end - a .at) / 16) (s .pre .0 .0) (s .pre .0 .1) (words-whole s) (words-least s)
+    read-other (a .text .now) (a .words .now) (w .read-words .last .1 .1 .1 .1 .0) (a .at) (a .end) (a .used) ((a .end - a .at) / 16) (s .pre .0 .0) (s .pre .0 .1) (words-whole s) (words-least s)
     (rw (not-false (w .read-words .result) (c .before .before .before .if1 .left)) at (w .read-words .ensures)) (c .before .frame-length .result) (c .before .frame-length .ensures) (λ e. omega (arith, c .if2 .taken))
 
 returns-3 : tie.Need-returns-3
@@ -51,7 +51,7 @@ returns-3 c =
     let w = c .before .before .before .before in
     let s = w .before .before .before in
     let a = s .args in
-    read-whole (a .text .now) (a .words .now) (w .read-words .last .1 .1 .1 .0) (a .at) (a .end) (a .used) ((a .end - a .at) / 16) (s .pre .0 .0) (s .pre .0 .1) (words-whole s) (words-least s)
+    read-whole (a .text .now) (a .words .now) (w .read-words .last .1 .1 .1 .1 .0) (a .at) (a .end) (a .used) ((a .end - a .at) / 16) (s .pre .0 .0) (s .pre .0 .1) (words-whole s) (words-least s)
     (rw (not-false (w .read-words .result) (c .before .before .before .if1 .left)) at (w .read-words .ensures)) (c .before .frame-length .result) (c .before .frame-length .ensures) (omega (arith, c .if2 .left))
 
 pub read-line-spec : {M : Type 1} → statement M

@@ -1,0 +1,67 @@
+-- A call by mode from its parts: the load, the entry's tests, the run.
+use Prim.Native.Nat.{ℕ}
+use mathlib.Core.Path.{_≡_, refl, sym, ap, _∙_}
+use mathlib.Core.Bool.{Bool, true, false}
+use mathlib.Core.List.{List}
+use Rattle.rules.specs.declared.Instruction.{Instruction}
+use Rattle.rules.specs.declared.Machine.{Machine}
+use Rattle.rules.specs.declared.Marks.{Marks}
+use Rattle.rules.specs.declared.Ran.{Ran}
+use Rattle.rules.specs.declared.Answer.the-variants.{Refused}
+use Rattle.rules.specs.declared.Refusal.{Refusal}
+use Rattle.rules.specs.declared.Refusal.the-variants.{BadState}
+use Rattle.rules.specs.Results.{Result, refuse, pass}
+use Rattle.rules.specs.Text.{Job}
+use Rattle.rules.specs.Answers.{meaning}
+use Rattle.rules.specs.Entry.{GuardedSnapshot, plainEntry, marksEntry, guardedEntry, all}
+use Rattle.rules.specs.Calls.{Called, refusedCall, plainCall, guardedCall, jobBudget, jobProgram}
+use Rattle.rules.specs.Handed.{guardedSnapshot, guardedCalled}
+use Rattle.rules.proofs.Laws.BoolLaws.{and-with-true}
+use Rattle.calling.specs.ModeCalls.{modeEntry, modeCall}
+
+-- The entry's tests
+
+-- `fits` is the test of the state alone
+module _ (g : GuardedSnapshot) (fits : Bool) (e : fits ≡ plainEntry (g .plain)) where
+  pub plainly-unfit : (guarded : Bool) → fits ≡ false → false ≡ modeEntry guarded g
+  unfolding modeEntry guardedEntry all
+  plainly-unfit true h = rw (sym e, h)
+  plainly-unfit false h = sym h ∙ e
+
+  pub plainly-fit : (guarded : Bool) → guarded ≡ false → fits ≡ true → true ≡ modeEntry guarded g
+  unfolding modeEntry
+  plainly-fit guarded f h = rw f (sym h ∙ e)
+
+  pub fit-by-marks : (guarded marked : Bool) → guarded ≡ true → fits ≡ true → marked ≡ marksEntry g → marked ≡ modeEntry guarded g
+  unfolding modeEntry guardedEntry all
+  fit-by-marks guarded marked t h m = rw (t, sym e, h) (m ∙ sym (and-with-true (marksEntry g)))
+
+-- A call refused at entry
+
+pub refused-is : (r : Ran) (f : Refusal) (m : Machine) (extras : Marks) (xs ns ts tape output : List ℕ)
+    → r ≡ record { answer = Refused f; steps = 0; machine = m; extras = extras }
+    → guardedCalled r xs ns ts tape output ≡ refusedCall f (guardedSnapshot m extras xs ns ts tape output)
+unfolding meaning
+refused-is r f m extras xs ns ts tape output e = ap (λ (x : Ran). guardedCalled x xs ns ts tape output) e
+
+-- by either call
+refused-call : (budget : ℕ) (g : GuardedSnapshot) (guarded : Bool) (f : Refusal) → refusedCall f g ≡ modeCall guarded (refuse f) budget g
+unfolding modeCall guardedCall plainCall
+refused-call budget g true f = refl
+refused-call budget g false f = refl
+
+module _ (program : List Instruction) (budget : ℕ) (g : GuardedSnapshot) (c : Called GuardedSnapshot) where
+  pub unfit : (guarded fits : Bool) → fits ≡ modeEntry guarded g → fits ≡ false → c ≡ refusedCall BadState g → c ≡ modeCall guarded (pass program) budget g
+  unfolding modeEntry modeCall guardedCall plainCall
+  unfit true fits h f e = rw (sym h ∙ f) e
+  unfit false fits h f e = rw (sym h ∙ f) e
+
+-- The program is refused
+
+module _ (guarded : Bool) (budget : ℕ) (g : GuardedSnapshot) (c : Called GuardedSnapshot) where
+  pub load-refused : (loaded : Result (List Instruction)) (f : Refusal) → loaded ≡ refuse f → c ≡ refusedCall f g → c ≡ modeCall guarded loaded budget g
+  load-refused loaded f h e = rw h (e ∙ refused-call budget g guarded f)
+
+pub job-refused : (guarded : Bool) (g : GuardedSnapshot) (c : Called GuardedSnapshot) (loaded : Result Job) (f : Refusal) → loaded ≡ refuse f → c ≡ refusedCall f g
+    → c ≡ modeCall guarded (jobProgram loaded) (jobBudget loaded) g
+job-refused guarded g c loaded f h e = rw h (e ∙ refused-call 0 g guarded f)

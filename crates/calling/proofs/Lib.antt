@@ -1,0 +1,4 @@
+-- Laws of the calls by mode.
+pub mod Answered
+pub mod Checking
+pub mod Entered
