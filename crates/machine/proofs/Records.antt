@@ -70,7 +70,9 @@ answered-val a = refl
 
 pub answered-fits : (r : Ran) → the-ran .Fits r → the-answered .Fits (answered r)
 unfolding the-ran the-answered
-answered-fits r f = LL.owes A.the-type A′.the-laws (answered r) (LL.owed R.the-type R′.the-laws r _ f .0, (LL.owed R.the-type R′.the-laws r _ f .1 .0, tt))
+answered-fits r f =
+    LL.owes A.the-type A′.the-laws (answered r)
+    (LL.owed R.the-type R′.the-laws r _ f .0, (LL.owed R.the-type R′.the-laws r _ f .1 .0, tt))
 
 pub answer-fits : (a : Answered) → the-answered .Fits a → the-answer .Fits (a .answer)
 unfolding the-answer the-answered

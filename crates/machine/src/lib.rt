@@ -35,8 +35,8 @@ pub fn step(
     output: &mut [u64],
 ) -> Answered
     ensures { λ r. ⌜ stepped (now (machine .exit)) r (now (addresses .exit)) (now (numbers .exit)) (now (tape .exit)) (now (output .exit))
-        ≡ plainWords (now (words .entry)) 1
-        (snapshot (now (machine .entry)) (now (addresses .entry)) (now (numbers .entry)) (now (tape .entry)) (now (output .entry))) ⌝ }
+        ≡ plainWords (now (words .entry)) 1 (snapshot (now (machine .entry))
+        (now (addresses .entry)) (now (numbers .entry)) (now (tape .entry)) (now (output .entry))) ⌝ }
 {
     let ran = executor::plain::step_words(words, *machine, addresses, numbers, tape, output);
     *machine = ran.machine;
@@ -57,8 +57,8 @@ pub fn lend_and_step(
     output: &mut [u64],
 ) -> Ran
     ensures { λ r. ⌜ called r (now (addresses .exit)) (now (numbers .exit)) (now (tape .exit)) (now (output .exit))
-        ≡ plainWords (now (words .entry)) 1
-        (snapshot machine (now (addresses .entry)) (now (numbers .entry)) (now (tape .entry)) (now (output .entry))) ⌝ }
+        ≡ plainWords (now (words .entry)) 1 (snapshot machine
+        (now (addresses .entry)) (now (numbers .entry)) (now (tape .entry)) (now (output .entry))) ⌝ }
     ensures { λ r. ⌜ r .extras ≡ noMarks ⌝ }
 {
     let mut record = machine;
@@ -82,10 +82,9 @@ pub fn guarded_step(
     tape: &mut [u64],
     output: &mut [u64],
 ) -> Answered
-    ensures { λ r. ⌜ guardedStepped (now (machine .exit)) r
-        (now (addresses .exit)) (now (numbers .exit)) (now (marks .exit)) (now (tape .exit)) (now (output .exit))
-        ≡ guardedWords (now (words .entry)) 1
-        (recordSnapshot (now (machine .entry))
+    ensures { λ r. ⌜ guardedStepped (now (machine .exit)) r (now (addresses .exit)) (now (numbers .exit)) (now (marks .exit))
+        (now (tape .exit)) (now (output .exit))
+        ≡ guardedWords (now (words .entry)) 1 (recordSnapshot (now (machine .entry))
         (now (addresses .entry)) (now (numbers .entry)) (now (marks .entry)) (now (tape .entry)) (now (output .entry))) ⌝ }
 {
     let kept = *machine;
@@ -124,8 +123,7 @@ pub fn lend_and_step_guarded(
 ) -> Ran
     ensures { λ r. ⌜ guardedCalled r
         (now (addresses .exit)) (now (numbers .exit)) (now (marks .exit)) (now (tape .exit)) (now (output .exit))
-        ≡ guardedWords (now (words .entry)) 1
-        (recordSnapshot machine
+        ≡ guardedWords (now (words .entry)) 1 (recordSnapshot machine
         (now (addresses .entry)) (now (numbers .entry)) (now (marks .entry)) (now (tape .entry)) (now (output .entry))) ⌝ }
 {
     let mut record = machine;

@@ -35,7 +35,8 @@ module _ {given machine₀ : Machine} {xs ns tape output xs₀ ns₀ tape₀ out
       ≡ guardedLeft (call (guardedSnapshot machine₀ extras₀ xs₀ ns₀ ts₀ tape₀ output₀))
   guarded-left {ts} {ts₀} {extras} r call e k h a m x =
       ap₂ (λ (a m : List ℕ). guardedBuffers a m extras xs ns ts tape output) a m
-      ∙ ap (λ (x : List ℕ). guardedBuffers (answerRecord (meaning (r .answer)) (r .steps)) (machineRecord (r .machine)) x xs ns ts tape output) x
+      ∙ ap (λ (x : List ℕ).
+      guardedBuffers (answerRecord (meaning (r .answer)) (r .steps)) (machineRecord (r .machine)) x xs ns ts tape output) x
       ∙ ap guardedLeft (h ∙ ap₂ (λ (m : Machine) (k : Marks). call (guardedSnapshot m k xs₀ ns₀ ts₀ tape₀ output₀)) e k)
 
 module _ {given machine₀ : Machine} {xs₀ ns₀ tape₀ output₀ answer : List ℕ} where

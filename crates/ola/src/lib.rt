@@ -7,12 +7,12 @@
 //
 // A machine is a record of 20 words: registers 0 to 9, pc, clk, psp, the four words of the storage address, and the counts of used cells,
 // tape values and output values. The extras of a guarded call are a record of 1 word, whose bit r is the mark of register r. An answer is a
-// record of 8 words: 0 for an outcome or 1 for a refusal, its number in document 01, the
-// steps done, the earliest malformed frame of refusal 2 (else 0), and the four words of the callee of e1 and e2 (else 0).
+// record of 8 words: 0 for an outcome or 1 for a refusal, its number in document 01, the steps done, the earliest malformed frame of
+// refusal 2 (else 0), and the four words of the callee of e1 and e2 (else 0).
 //
 // Each function takes any arguments and answers, and touches nothing but what it is lent. A call refused at entry writes its answer and
-// leaves the rest: the records of machine and extras are written anew and are what they were (`RecordsKept` of crate records). include/ola.h is the
-// same for a person.
+// leaves the rest: the records of machine and extras are written anew and are what they were (`RecordsKept` of crate records).
+// include/ola.h is the same for a person.
 mod guarded_calls;
 mod plain_calls;
 

@@ -189,9 +189,10 @@ module _ {M : Type 1} (𝓤 : URA M) (H : Heap 𝓤) (A : Atoms 𝓤) (W : Given
           freed ! 30 refl refl $ freed ! 28 refl refl $ freed ! 26 refl refl $ freed ! 24 refl refl $ freed ! 22 refl refl $
           freed ! 20 refl refl $ freed ! 18 refl refl $ freed ! 16 refl refl $ freed ! 14 refl refl $ freed ! 12 refl refl $
           freed ! 10 refl refl $ freed ! 8 refl refl $ freed ! 6 refl refl $ freed ! 4 refl refl $ free0 ! $
-          move ! (3 ∷ []) $ fsplit ! $ drop ! $ fsplit ! $ drop ! $ fsplit ! $ drop ! $ move ! (1 ∷ 0 ∷ []) $ fjoin ! $ nothing ! $ fjoin ! $
-          move ! (2 ∷ []) $ use1 W (‵ (flft κw qw) ⊛ raw (toks 𝓤 A 5 κs qs)) (id⊢ 𝓤 _) $ split ! $ move ! (3 ∷ 1 ∷ []) $ join ! $
-          move ! (1 ∷ 0 ∷ []) $ join ! $ owns-whole ! the-answered (answered r) (answered-fits r f) $ move ! (1 ∷ 2 ∷ 0 ∷ []) $
+          move ! (3 ∷ []) $ fsplit ! $ drop ! $ fsplit ! $ drop ! $ fsplit ! $ drop ! $ move ! (1 ∷ 0 ∷ []) $ fjoin ! $
+          nothing ! $ fjoin ! $ move ! (2 ∷ []) $ use1 W (‵ (flft κw qw) ⊛ raw (toks 𝓤 A 5 κs qs)) (id⊢ 𝓤 _) $ split ! $
+          move ! (3 ∷ 1 ∷ []) $ join ! $ move ! (1 ∷ 0 ∷ []) $ join ! $
+          owns-whole ! the-answered (answered r) (answered-fits r f) $ move ! (1 ∷ 2 ∷ 0 ∷ []) $
           by ! (ends-told 𝓤 H A W self.ended (self.clauses 𝓤 H A at-mem run) bound _ (answered r) (zs .0, (kept r, zs .1 .1 .1))
           (factI 𝓤 _ _ e)))))))))))))))))))))))))))))
 
@@ -199,7 +200,13 @@ module _ {M : Type 1} (𝓤 : URA M) (H : Heap 𝓤) (A : Atoms 𝓤) (W : Given
       → Meets 𝓤 H A self.signature (WpFn 𝓤 H (𝓣 .C) (𝓣 .Λ) code.function) (self.spec 𝓤 H A at-mem run)
   meets 𝓣 met = meets-told 𝓤 H A W self.ended (self.clauses 𝓤 H A at-mem run) 𝓣 code.function
       (λ κs. (slice-vals, (ptr-vals, (slice-vals, (slice-vals, (slice-vals, (slice-vals, (slice-vals, tt))))))))
-      (λ κs. (words-tell, (mut-tells (named 1) (κs .1 .0) the-row, (buffer-tells, (buffer-tells, (buffer-tells, (buffer-tells, (buffer-tells, tt))))))))
+      (λ κs. (
+        words-tell,
+        (
+          mut-tells (named 1) (κs .1 .0) the-row,
+          (buffer-tells, (buffer-tells, (buffer-tells, (buffer-tells, (buffer-tells, tt))))),
+        ),
+      ))
       (λ κs qs bounds a _ are. walk (κs .0) (κs .1 .0) (qs .0) (qs .1 .0) (κs .1 .1) (qs .1 .1)
       (a .1 .0 .ptr .0) (a .1 .0 .ptr .1) (a .1 .0 .name) (a .1 .0 .now)
       (a .0) (a .1 .1 .0) (a .1 .1 .1 .0) (a .1 .1 .1 .1 .0) (a .1 .1 .1 .1 .1 .0) (a .1 .1 .1 .1 .1 .1 .0)

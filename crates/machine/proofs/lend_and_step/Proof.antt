@@ -123,7 +123,8 @@ module _ {M : Type 1} (𝓤 : URA M) (H : Heap 𝓤) (A : Atoms 𝓤) (W : Given
           pass1 ! (init ! 30 refl (tt, (tt, (record { fits = tape-fits }, tt)))) $
           pass1 ! (init ! 28 refl (tt, (tt, (record { fits = output-fits }, tt)))) $ pass0 ! $
           -- [_20; …; _i at 2 (20 - i); …; what the buffers own, at 42; the words; the words' token; the buffers' tokens]
-          assigns ! (of-opd ! (load ! (from ! (stop !)) (look ! 36 refl))) (from ! (stop !)) (init ! 26 refl (the-machine .typed 𝓤 H A W h g)) $
+          assigns ! (of-opd ! (load ! (from ! (stop !)) (look ! 36 refl))) (from ! (stop !))
+          (init ! 26 refl (the-machine .typed 𝓤 H A W h g)) $
           assigns ! (addr ! (from ! (stop !))) (from ! (stop !)) (init ! 20 refl (tt, tt)) $
           relends ! 34 18 16 refl refl refl refl refl refl refl refl addresses-fit $
           relends ! 32 14 12 refl refl refl refl refl refl refl refl numbers-fit $
@@ -131,8 +132,8 @@ module _ {M : Type 1} (𝓤 : URA M) (H : Heap 𝓤) (A : Atoms 𝓤) (W : Given
           relends ! 28 6 4 refl refl refl refl refl refl refl refl output-fits $
           -- _7 is lent for a lifetime ν
           lft-new ! tt (λ ν. move ! (27 ∷ []) $ lends-record ! tt the-machine (ν ∷ []) l₇ 0 h g (λ δ.
-          -- [the reference; the lender's part; ν's token; _20 at 3; …; _8 at 27; what frees _7, at 29; _6 at 30; …; what the buffers own, at
-          -- 44; the words; the words' token; the buffers' tokens]
+          -- [the reference; the lender's part; ν's token; _20 at 3; …; _8 at 27; what frees _7, at 29; _6 at 30; …; what the buffers own,
+          -- at 44; the words; the words' token; the buffers' tokens]
           move ! (0 ∷ 44 ∷ []) $ fjoin ! $ move ! (44 ∷ 0 ∷ []) $ fjoin ! $ move ! (2 ∷ 45 ∷ []) $ join ! $ move ! (44 ∷ 0 ∷ []) $ join ! $
           use1 W (raw (toks 𝓤 A 6 (κw, (ν ∷ [], κs)) (qw, (fullShare, qs)))) (id⊢ 𝓤 _) $
           calls-told ! fm callee.ended (callee.clauses 𝓤 H A at-mem run) met (bound-callee l₇ ν δ) (id⊢ 𝓤 _)
@@ -153,7 +154,8 @@ module _ {M : Type 1} (𝓤 : URA M) (H : Heap 𝓤) (A : Atoms 𝓤) (W : Given
           -- …; _0 at 43; …]
           assigns ! (of-opd ! (load ! (from ! (fld ! refl (stop !))) (look-in ! 29 (sub ! 0 refl (whole !)))))
           (from ! (stop !)) (init ! 27 refl (the-answer .typed 𝓤 H A W (r .answer) (answer-fits r f))) $
-          assigns ! (of-opd ! (load ! (from ! (stop !)) (look ! 0 refl))) (from ! (stop !)) (init ! 7 refl (the-machine .typed 𝓤 H A W (zs .1 .0) g′)) $
+          assigns ! (of-opd ! (load ! (from ! (stop !)) (look ! 0 refl))) (from ! (stop !))
+          (init ! 7 refl (the-machine .typed 𝓤 H A W (zs .1 .0) g′)) $
           assigns ! (agg ! (and-then ! (lit ! tt) (no-more !)))
           (from ! (stop !)) (init ! 5 refl (subst (λ (u : Val). Holds (hasTy K′.mir u) × WT u) no-marks-val
           (the-marks .typed 𝓤 H A W noMarks no-marks-fit))) $

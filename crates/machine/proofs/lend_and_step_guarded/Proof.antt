@@ -46,7 +46,8 @@ use Rattle.machine.specs.Stepping.{recordSnapshot, guardedStepped}
 use Rattle.machine.proofs.Answered.Laws as A′
 use Rattle.machine.proofs.GuardedMachine.Laws as G′
 use Rattle.machine.proofs.Records.{the-answer, the-machine, the-marks, the-ran, the-answered, the-guarded-machine}
-use Rattle.machine.proofs.Records.{answered-val, answer-fits, ranOf, ran-val, ran-fits, guarded-machine-val, machine-fits, extras-fit}
+use Rattle.machine.proofs.Records.{answered-val, answer-fits, ranOf, ran-val, ran-fits}
+use Rattle.machine.proofs.Records.{guarded-machine-val, machine-fits, extras-fit}
 use Rattle.machine.proofs.Slices.{Slice, GuardedSlices, guarded-slices-at, words-tell, buffer-tells}
 use Rattle.machine.proofs.guarded_step as callee
 use Rattle.machine.proofs.guarded_step.Symbol as callee-def
@@ -65,13 +66,23 @@ module _ {M : Type 1} (𝓤 : URA M) (H : Heap 𝓤) (A : Atoms 𝓤) (W : Given
   abbrev Walk : Contract 𝓤
   Walk = walkOf 𝓤 H A self.ended (toldOf 𝓤 H A W self.ended (self.clauses 𝓤 H A at-mem run)) (self.clauses 𝓤 H A at-mem run)
 
-  module _ (κw : Lft) (qw : Share) (κs : Lfts 5) (qs : Shares 5) (h : GuardedMachine) (words addresses numbers marks tape output : Slice) where
+  module _ (κw : Lft) (qw : Share) (κs : Lfts 5) (qs : Shares 5) (h : GuardedMachine)
+      (words addresses numbers marks tape output : Slice) where
     abbrev slices : GuardedSlices
     slices = (addresses, (numbers, (marks, (tape, (output, tt)))))
 
     -- what this function's contract binds outside
     abbrev bound : Walk .Ghost
-    bound = (((κw, κs), (qw, qs), tt, (words, (h, slices)), (slice-vals words, (the-guarded-machine .val h ∷ [], guarded-slices-at slices))), tt)
+    bound = (
+      (
+        (κw, κs),
+        (qw, qs),
+        tt,
+        (words, (h, slices)),
+        (slice-vals words, (the-guarded-machine .val h ∷ [], guarded-slices-at slices)),
+      ),
+      tt,
+    )
 
     abbrev result : GuardedMachine → Answered → Ran
     result m a = ranOf (m .machine) (m .extras) a
@@ -95,7 +106,8 @@ module _ {M : Type 1} (𝓤 : URA M) (H : Heap 𝓤) (A : Atoms 𝓤) (W : Given
 
       -- what the callee says of its result, of the last record and of the buffers' last lists
       abbrev Said : Answered → Lasts callee.ended (κw, (ν ∷ [], κs)) (words, (lent, slices)) → Type 0
-      Said r zs = guardedStepped (zs .1 .0) r (zs .1 .1 .0) (zs .1 .1 .1 .0) (zs .1 .1 .1 .1 .0) (zs .1 .1 .1 .1 .1 .0) (zs .1 .1 .1 .1 .1 .1 .0)
+      Said r zs =
+          guardedStepped (zs .1 .0) r (zs .1 .1 .0) (zs .1 .1 .1 .0) (zs .1 .1 .1 .1 .0) (zs .1 .1 .1 .1 .1 .0) (zs .1 .1 .1 .1 .1 .1 .0)
           ≡ guardedWords (now words) 1 (recordSnapshot h (now addresses) (now numbers) (now marks) (now tape) (now output))
 
     module _ (C : Calls 𝓤 H) (Λ : Loops 𝓤 H) (fm : FmC 𝓤 H (W .laws) C) (met : Triple 𝓤 (C #callee) Callee)
@@ -125,7 +137,8 @@ module _ {M : Type 1} (𝓤 : URA M) (H : Heap 𝓤) (A : Atoms 𝓤) (W : Given
           pass1 ! (init ! 34 refl (tt, (tt, (record { fits = tape-fits }, tt)))) $
           pass1 ! (init ! 32 refl (tt, (tt, (record { fits = output-fits }, tt)))) $ pass0 ! $
           -- [_23; …; _i at 2 (23 - i); …; what the buffers own, at 48; the words; the words' token; the buffers' tokens]
-          assigns ! (of-opd ! (load ! (from ! (stop !)) (look ! 42 refl))) (from ! (stop !)) (init ! 30 refl (the-guarded-machine .typed 𝓤 H A W h g)) $
+          assigns ! (of-opd ! (load ! (from ! (stop !)) (look ! 42 refl))) (from ! (stop !))
+          (init ! 30 refl (the-guarded-machine .typed 𝓤 H A W h g)) $
           assigns ! (addr ! (from ! (stop !))) (from ! (stop !)) (init ! 22 refl (tt, tt)) $
           relends ! 40 20 18 refl refl refl refl refl refl refl refl addresses-fit $
           relends ! 38 16 14 refl refl refl refl refl refl refl refl numbers-fit $
@@ -134,8 +147,8 @@ module _ {M : Type 1} (𝓤 : URA M) (H : Heap 𝓤) (A : Atoms 𝓤) (W : Given
           relends ! 32 4 2 refl refl refl refl refl refl refl refl output-fits $
           -- _8 is lent for a lifetime ν
           lft-new ! tt (λ ν. move ! (31 ∷ []) $ lends-record ! tt the-guarded-machine (ν ∷ []) l₈ 0 h g (λ δ.
-          -- [the reference; the lender's part; ν's token; _23 at 3; …; _9 at 31; what frees _8, at 33; _7 at 34; …; what the buffers own, at
-          -- 50; the words; the words' token; the buffers' tokens]
+          -- [the reference; the lender's part; ν's token; _23 at 3; …; _9 at 31; what frees _8, at 33; _7 at 34; …; what the buffers own,
+          -- at 50; the words; the words' token; the buffers' tokens]
           move ! (0 ∷ 50 ∷ []) $ fjoin ! $ move ! (50 ∷ 0 ∷ []) $ fjoin ! $ move ! (2 ∷ 51 ∷ []) $ join ! $ move ! (50 ∷ 0 ∷ []) $ join ! $
           use1 W (raw (toks 𝓤 A 7 (κw, (ν ∷ [], κs)) (qw, (fullShare, qs)))) (id⊢ 𝓤 _) $
           calls-told ! fm callee.ended (callee.clauses 𝓤 H A at-mem run) met (bound-callee l₈ ν δ) (id⊢ 𝓤 _)
@@ -178,7 +191,8 @@ module _ {M : Type 1} (𝓤 : URA M) (H : Heap 𝓤) (A : Atoms 𝓤) (W : Given
           freed ! 11 refl refl $ freed ! 9 refl refl $ freed ! 7 refl refl $ freed ! 5 refl refl $ freed ! 3 refl refl $ free0 ! $
           nothing ! $ fjoin ! $ nothing ! $ fjoin ! $ move ! (2 ∷ 1 ∷ []) $ join ! $
           owns-whole ! the-ran (result (zs .1 .0) r)
-          (ran-fits (zs .1 .0 .machine) (zs .1 .0 .extras) r (machine-fits (zs .1 .0) g′) (extras-fit (zs .1 .0) g′) f) $ move ! (1 ∷ 2 ∷ 0 ∷ []) $
+          (ran-fits (zs .1 .0 .machine) (zs .1 .0 .extras) r (machine-fits (zs .1 .0) g′) (extras-fit (zs .1 .0) g′) f) $
+          move ! (1 ∷ 2 ∷ 0 ∷ []) $
           by ! (ends-told 𝓤 H A W self.ended (self.clauses 𝓤 H A at-mem run) bound _ (result (zs .1 .0) r) (zs .0, (tt, zs .1 .1))
           (factI 𝓤 _ _ e))))))))))))))))))))))))))))))))
 
@@ -186,7 +200,13 @@ module _ {M : Type 1} (𝓤 : URA M) (H : Heap 𝓤) (A : Atoms 𝓤) (W : Given
       → Meets 𝓤 H A self.signature (WpFn 𝓤 H (𝓣 .C) (𝓣 .Λ) code.function) (self.spec 𝓤 H A at-mem run)
   meets 𝓣 met = meets-told 𝓤 H A W self.ended (self.clauses 𝓤 H A at-mem run) 𝓣 code.function
       (λ κs. (slice-vals, (vals-of the-guarded-machine, (slice-vals, (slice-vals, (slice-vals, (slice-vals, (slice-vals, tt))))))))
-      (λ κs. (words-tell, (tells-of the-guarded-machine, (buffer-tells, (buffer-tells, (buffer-tells, (buffer-tells, (buffer-tells, tt))))))))
+      (λ κs. (
+        words-tell,
+        (
+          tells-of the-guarded-machine,
+          (buffer-tells, (buffer-tells, (buffer-tells, (buffer-tells, (buffer-tells, tt))))),
+        ),
+      ))
       (λ κs qs bounds a _ are. walk (κs .0) (qs .0) (κs .1) (qs .1) (a .1 .0) (a .0) (a .1 .1 .0) (a .1 .1 .1 .0) (a .1 .1 .1 .1 .0)
       (a .1 .1 .1 .1 .1 .0) (a .1 .1 .1 .1 .1 .1 .0) (𝓣 .C) (𝓣 .Λ) (fmOf 𝓤 H (W .laws) 𝓣) met (are .0 .0 .1 .0) (are .1 .1 .0 .0 .1 .0)
       (are .1 .1 .1 .0 .0 .1 .0) (are .1 .1 .1 .1 .0 .0 .1 .0) (are .1 .1 .1 .1 .1 .0 .0 .1 .0) (are .1 .1 .1 .1 .1 .1 .0 .0 .1 .0)

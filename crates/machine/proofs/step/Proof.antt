@@ -154,8 +154,8 @@ module _ {M : Type 1} (𝓤 : URA M) (H : Heap 𝓤) (A : Atoms 𝓤) (W : Given
           freed ! 20 refl refl $ freed ! 18 refl refl $ freed ! 16 refl refl $ freed ! 14 refl refl $ freed ! 12 refl refl $
           freed ! 10 refl refl $ freed ! 8 refl refl $ freed ! 6 refl refl $ freed ! 4 refl refl $ free0 ! $
           move ! (3 ∷ []) $ fsplit ! $ drop ! $ fsplit ! $ drop ! $ move ! (1 ∷ 0 ∷ []) $ fjoin ! $ nothing ! $ fjoin ! $ move ! (2 ∷ []) $
-          use1 W (‵ (flft κw qw) ⊛ raw (toks 𝓤 A 4 κs qs)) (id⊢ 𝓤 _) $ split ! $ move ! (3 ∷ 1 ∷ []) $ join ! $ move ! (1 ∷ 0 ∷ []) $ join ! $
-          owns-whole ! the-answered (answered r) (answered-fits r f) $ move ! (1 ∷ 2 ∷ 0 ∷ []) $
+          use1 W (‵ (flft κw qw) ⊛ raw (toks 𝓤 A 4 κs qs)) (id⊢ 𝓤 _) $ split ! $ move ! (3 ∷ 1 ∷ []) $ join ! $
+          move ! (1 ∷ 0 ∷ []) $ join ! $ owns-whole ! the-answered (answered r) (answered-fits r f) $ move ! (1 ∷ 2 ∷ 0 ∷ []) $
           by ! (ends-told 𝓤 H A W self.ended (self.clauses 𝓤 H A at-mem run) bound _ (answered r) (zs .0, (r .machine, zs .1 .1))
           (factI 𝓤 _ _ e))))))))))))))))))))))))
 

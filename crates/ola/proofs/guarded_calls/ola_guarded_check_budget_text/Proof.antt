@@ -1,4 +1,5 @@
--- `ola::guarded_calls::ola_guarded_check_budget_text` meets its contract: the machine and the extras are read from their records, and the answer's record is written.
+-- `ola::guarded_calls::ola_guarded_check_budget_text` meets its contract: the machine and the extras are read from their records, and the
+-- answer's record is written.
 use Rattle.rules.specs.Calls.{guardedCall}
 use Rattle.ola.proofs.LeftLaws.{guarded-checked}
 use borrow.Author.Needs.{needs}

@@ -1,4 +1,5 @@
--- `ola::guarded_calls::ola_guarded_run_words` meets its contract: the machine and the extras are read from their records, the call is made, and all three records are written.
+-- `ola::guarded_calls::ola_guarded_run_words` meets its contract: the machine and the extras are read from their records, the call is
+-- made, and all three records are written.
 use Rattle.rules.specs.Calls.{guardedWords}
 use Rattle.ola.proofs.LeftLaws.{guarded-left}
 use borrow.Author.Needs.{needs}
@@ -40,12 +41,11 @@ same-length-5 c = search needs
 
 returns : tie.Need-returns
 returns c =
+    let made = c .before .before .before .before .before .before .before .before .before .before .before .before .before .before .before in
     guarded-left _ (guardedWords _ _)
-    (c .before .before .before .before .before .before .before .before .before .before .before .before .before .before .before .before .before .before .before .before .before .before .before .machine-of .ensures)
-    (c .before .before .before .before .before .before .before .before .before .before .before .before .before .before .before .before .before .before .before .before .before .marks-of .ensures)
-    (c .before .before .before .before .before .before .before .before .before .before .before .before .before .before .before .run-words .ensures)
-    (c .before .before .before .answer-record .ensures)
-    (c .before .before .machine-record .ensures)
+    (made .before .before .before .before .before .before .before .before .machine-of .ensures)
+    (made .before .before .before .before .before .before .marks-of .ensures)
+    (made .run-words .ensures) (c .before .before .before .answer-record .ensures) (c .before .before .machine-record .ensures)
     (c .marks-record .ensures)
 
 pub ola-guarded-run-words-spec : {M : Type 1} → statement M

@@ -1,4 +1,5 @@
--- `ola::plain_calls::ola_run_budget_text` meets its contract: the machine is read from its record, the call is made, and both records are written.
+-- `ola::plain_calls::ola_run_budget_text` meets its contract: the machine is read from its record, the call is made, and both records are
+-- written.
 use Rattle.rules.specs.Calls.{plainBudgetText}
 use Rattle.ola.proofs.LeftLaws.{plain-left}
 use borrow.Author.Needs.{needs}
@@ -31,12 +32,10 @@ same-length-4 c = search needs
 
 returns : tie.Need-returns
 returns c =
-    let run = c .before .before .before .before .before .before .before .before .before .before .before .run-budget-text in
-    plain-left (run .result) (plainBudgetText _)
-    (c .before .before .before .before .before .before .before .before .before .before .before .before .before .before .before .before .machine-of .ensures)
-    (run .ensures .0)
-    (c .before .answer-record .ensures)
-    (c .machine-record .ensures)
+    let made = c .before .before .before .before .before .before .before .before .before .before .before in
+    plain-left (made .run-budget-text .result) (plainBudgetText _)
+    (made .before .before .before .before .before .machine-of .ensures)
+    (made .run-budget-text .ensures .0) (c .before .answer-record .ensures) (c .machine-record .ensures)
 
 pub ola-run-budget-text-spec : {M : Type 1} → statement M
 ola-run-budget-text-spec =

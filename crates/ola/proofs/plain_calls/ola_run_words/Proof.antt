@@ -1,4 +1,5 @@
--- `ola::plain_calls::ola_run_words` meets its contract: the machine is read from its record, the call is made, and both records are written.
+-- `ola::plain_calls::ola_run_words` meets its contract: the machine is read from its record, the call is made, and both records are
+-- written.
 use Rattle.rules.specs.Calls.{plainWords}
 use Rattle.ola.proofs.LeftLaws.{plain-left}
 use borrow.Author.Needs.{needs}
@@ -31,12 +32,10 @@ same-length-4 c = search needs
 
 returns : tie.Need-returns
 returns c =
-    let run = c .before .before .before .before .before .before .before .before .before .before .before .run-words in
-    plain-left (run .result) (plainWords _ _)
-    (c .before .before .before .before .before .before .before .before .before .before .before .before .before .before .before .before .machine-of .ensures)
-    (run .ensures .0)
-    (c .before .answer-record .ensures)
-    (c .machine-record .ensures)
+    let made = c .before .before .before .before .before .before .before .before .before .before .before in
+    plain-left (made .run-words .result) (plainWords _ _)
+    (made .before .before .before .before .before .machine-of .ensures)
+    (made .run-words .ensures .0) (c .before .answer-record .ensures) (c .machine-record .ensures)
 
 pub ola-run-words-spec : {M : Type 1} → statement M
 ola-run-words-spec =

@@ -31,12 +31,10 @@ same-length-4 c = search needs
 
 returns : tie.Need-returns
 returns c =
-    let run = c .before .before .before .before .before .before .before .before .before .before .before .lend-and-step in
-    plain-left (run .result) (plainWords _ 1)
-    (c .before .before .before .before .before .before .before .before .before .before .before .before .before .before .before .before .machine-of .ensures)
-    (run .ensures .0)
-    (c .before .answer-record .ensures)
-    (c .machine-record .ensures)
+    let made = c .before .before .before .before .before .before .before .before .before .before .before in
+    plain-left (made .lend-and-step .result) (plainWords _ 1)
+    (made .before .before .before .before .before .machine-of .ensures)
+    (made .lend-and-step .ensures .0) (c .before .answer-record .ensures) (c .machine-record .ensures)
 
 pub ola-step-words-spec : {M : Type 1} → statement M
 ola-step-words-spec =
