@@ -28,7 +28,8 @@ pub(crate) fn accepts(
 ) -> bool
     ensures { λ r. ⌜ r
         ≡ modeEntry (mode .guarded)
-        (handed mode machine (now (addresses .entry)) (now (numbers .entry)) (now (marks .entry)) (now (tape .entry)) (now (output .entry))) ⌝ }
+        (handed mode machine (now (addresses .entry)) (now (numbers .entry)) (now (marks .entry))
+        (now (tape .entry)) (now (output .entry))) ⌝ }
 {
     if !entry::accepts(machine, addresses, numbers, tape, output) {
         return false;

@@ -55,9 +55,11 @@ fn enter(
     requires { ⌜ Loaded (now words) (now rows) ⌝ }
     requires { ⌜ 14 + length (now words) ≤ length (now values) ⌝ }
     requires { ⌜ Unmarked mode (now marks) ⌝ }
-    ensures { λ r. ⌜ guardedCalled r (now (addresses .exit)) (now (numbers .exit)) (now (marks .exit)) (now (tape .exit)) (now (output .exit))
+    ensures { λ r. ⌜ guardedCalled r (now (addresses .exit)) (now (numbers .exit)) (now (marks .exit))
+        (now (tape .exit)) (now (output .exit))
         ≡ modeCall (mode .guarded) (pass (programOf (now (words .entry)))) budget
-        (handed mode machine (now (addresses .entry)) (now (numbers .entry)) (now (marks .entry)) (now (tape .entry)) (now (output .entry))) ⌝ }
+        (handed mode machine (now (addresses .entry)) (now (numbers .entry)) (now (marks .entry))
+        (now (tape .entry)) (now (output .entry))) ⌝ }
 {
     if checks::accepts(mode, machine, addresses, numbers, marks, tape, output) {
         let extras = mode.extras;
@@ -118,9 +120,11 @@ fn load_and_enter(
     requires { ⌜ EmptyRows (now words) (now rows) ⌝ }
     requires { ⌜ (length (now words) ≤ wordLimit → 14 + length (now words) ≤ length (now values)) ⌝ }
     requires { ⌜ Unmarked mode (now marks) ⌝ }
-    ensures { λ r. ⌜ guardedCalled r (now (addresses .exit)) (now (numbers .exit)) (now (marks .exit)) (now (tape .exit)) (now (output .exit))
+    ensures { λ r. ⌜ guardedCalled r (now (addresses .exit)) (now (numbers .exit)) (now (marks .exit))
+        (now (tape .exit)) (now (output .exit))
         ≡ modeCall (mode .guarded) (loadWords (now (words .entry))) budget
-        (handed mode machine (now (addresses .entry)) (now (numbers .entry)) (now (marks .entry)) (now (tape .entry)) (now (output .entry))) ⌝ }
+        (handed mode machine (now (addresses .entry)) (now (numbers .entry)) (now (marks .entry))
+        (now (tape .entry)) (now (output .entry))) ⌝ }
 {
     match table::load_words(words, rows) {
         Checked::Frames(_) => enter(
@@ -153,9 +157,11 @@ pub fn run_words(
     output: &mut [u64],
 ) -> Ran
     requires { ⌜ Unmarked mode (now marks) ⌝ }
-    ensures { λ r. ⌜ guardedCalled r (now (addresses .exit)) (now (numbers .exit)) (now (marks .exit)) (now (tape .exit)) (now (output .exit))
+    ensures { λ r. ⌜ guardedCalled r (now (addresses .exit)) (now (numbers .exit)) (now (marks .exit))
+        (now (tape .exit)) (now (output .exit))
         ≡ modeCall (mode .guarded) (loadWords (now (words .entry))) budget
-        (handed mode machine (now (addresses .entry)) (now (numbers .entry)) (now (marks .entry)) (now (tape .entry)) (now (output .entry))) ⌝ }
+        (handed mode machine (now (addresses .entry)) (now (numbers .entry)) (now (marks .entry))
+        (now (tape .entry)) (now (output .entry))) ⌝ }
 {
     if words.len() <= table::TINY_WORDS {
         let mut rows = [0u16; table::TINY_ROWS];
@@ -221,9 +227,11 @@ pub fn run_text(
     output: &mut [u64],
 ) -> Ran
     requires { ⌜ Unmarked mode (now marks) ⌝ }
-    ensures { λ r. ⌜ guardedCalled r (now (addresses .exit)) (now (numbers .exit)) (now (marks .exit)) (now (tape .exit)) (now (output .exit))
+    ensures { λ r. ⌜ guardedCalled r (now (addresses .exit)) (now (numbers .exit)) (now (marks .exit))
+        (now (tape .exit)) (now (output .exit))
         ≡ modeCall (mode .guarded) (loadText (now (text .entry))) budget
-        (handed mode machine (now (addresses .entry)) (now (numbers .entry)) (now (marks .entry)) (now (tape .entry)) (now (output .entry))) ⌝ }
+        (handed mode machine (now (addresses .entry)) (now (numbers .entry)) (now (marks .entry))
+        (now (tape .entry)) (now (output .entry))) ⌝ }
 {
     let mut words = [0u64; binary_program::WORD_LIMIT];
     match program_text::load_text(text, &mut words) {
@@ -257,9 +265,11 @@ pub fn run_budget_text(
     output: &mut [u64],
 ) -> Ran
     requires { ⌜ Unmarked mode (now marks) ⌝ }
-    ensures { λ r. ⌜ guardedCalled r (now (addresses .exit)) (now (numbers .exit)) (now (marks .exit)) (now (tape .exit)) (now (output .exit))
+    ensures { λ r. ⌜ guardedCalled r (now (addresses .exit)) (now (numbers .exit)) (now (marks .exit))
+        (now (tape .exit)) (now (output .exit))
         ≡ modeCall (mode .guarded) (jobProgram (loadBudgetText (now (text .entry)))) (jobBudget (loadBudgetText (now (text .entry))))
-        (handed mode machine (now (addresses .entry)) (now (numbers .entry)) (now (marks .entry)) (now (tape .entry)) (now (output .entry))) ⌝ }
+        (handed mode machine (now (addresses .entry)) (now (numbers .entry)) (now (marks .entry))
+        (now (tape .entry)) (now (output .entry))) ⌝ }
 {
     let mut words = [0u64; binary_program::WORD_LIMIT];
     match program_text::load_budget_text(text, &mut words) {

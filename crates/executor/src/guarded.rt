@@ -43,9 +43,11 @@ pub fn run_words(
     tape: &mut [u64],
     output: &mut [u64],
 ) -> Ran
-    ensures { λ r. ⌜ guardedCalled r (now (addresses .exit)) (now (numbers .exit)) (now (marks .exit)) (now (tape .exit)) (now (output .exit))
+    ensures { λ r. ⌜ guardedCalled r (now (addresses .exit)) (now (numbers .exit)) (now (marks .exit))
+        (now (tape .exit)) (now (output .exit))
         ≡ guardedWords (now (words .entry)) budget
-        (guardedSnapshot machine extras (now (addresses .entry)) (now (numbers .entry)) (now (marks .entry)) (now (tape .entry)) (now (output .entry))) ⌝ }
+        (guardedSnapshot machine extras (now (addresses .entry)) (now (numbers .entry)) (now (marks .entry))
+        (now (tape .entry)) (now (output .entry))) ⌝ }
 {
     calling::runs::run_words(
         mode(extras),
@@ -71,9 +73,11 @@ pub fn step_words(
     tape: &mut [u64],
     output: &mut [u64],
 ) -> Ran
-    ensures { λ r. ⌜ guardedCalled r (now (addresses .exit)) (now (numbers .exit)) (now (marks .exit)) (now (tape .exit)) (now (output .exit))
+    ensures { λ r. ⌜ guardedCalled r (now (addresses .exit)) (now (numbers .exit)) (now (marks .exit))
+        (now (tape .exit)) (now (output .exit))
         ≡ guardedWords (now (words .entry)) 1
-        (guardedSnapshot machine extras (now (addresses .entry)) (now (numbers .entry)) (now (marks .entry)) (now (tape .entry)) (now (output .entry))) ⌝ }
+        (guardedSnapshot machine extras (now (addresses .entry)) (now (numbers .entry)) (now (marks .entry))
+        (now (tape .entry)) (now (output .entry))) ⌝ }
 {
     run_words(
         words,
@@ -100,9 +104,11 @@ pub fn run_text(
     tape: &mut [u64],
     output: &mut [u64],
 ) -> Ran
-    ensures { λ r. ⌜ guardedCalled r (now (addresses .exit)) (now (numbers .exit)) (now (marks .exit)) (now (tape .exit)) (now (output .exit))
+    ensures { λ r. ⌜ guardedCalled r (now (addresses .exit)) (now (numbers .exit)) (now (marks .exit))
+        (now (tape .exit)) (now (output .exit))
         ≡ guardedText (now (text .entry)) budget
-        (guardedSnapshot machine extras (now (addresses .entry)) (now (numbers .entry)) (now (marks .entry)) (now (tape .entry)) (now (output .entry))) ⌝ }
+        (guardedSnapshot machine extras (now (addresses .entry)) (now (numbers .entry)) (now (marks .entry))
+        (now (tape .entry)) (now (output .entry))) ⌝ }
 {
     calling::runs::run_text(
         mode(extras),
@@ -128,9 +134,11 @@ pub fn run_budget_text(
     tape: &mut [u64],
     output: &mut [u64],
 ) -> Ran
-    ensures { λ r. ⌜ guardedCalled r (now (addresses .exit)) (now (numbers .exit)) (now (marks .exit)) (now (tape .exit)) (now (output .exit))
+    ensures { λ r. ⌜ guardedCalled r (now (addresses .exit)) (now (numbers .exit)) (now (marks .exit))
+        (now (tape .exit)) (now (output .exit))
         ≡ guardedBudgetText (now (text .entry))
-        (guardedSnapshot machine extras (now (addresses .entry)) (now (numbers .entry)) (now (marks .entry)) (now (tape .entry)) (now (output .entry))) ⌝ }
+        (guardedSnapshot machine extras (now (addresses .entry)) (now (numbers .entry)) (now (marks .entry))
+        (now (tape .entry)) (now (output .entry))) ⌝ }
 {
     calling::runs::run_budget_text(
         mode(extras),
@@ -157,7 +165,8 @@ pub fn check_words(
 ) -> Answer
     ensures { λ r. ⌜ meaning r
         ≡ guardedWords (now (words .entry)) 0
-        (guardedSnapshot machine extras (now (addresses .entry)) (now (numbers .entry)) (now (marks .entry)) (now (tape .entry)) (now (output .entry)))
+        (guardedSnapshot machine extras (now (addresses .entry)) (now (numbers .entry)) (now (marks .entry))
+        (now (tape .entry)) (now (output .entry)))
         .answer ⌝ }
 {
     calling::checks::check_words(
@@ -185,7 +194,8 @@ pub fn check_text(
 ) -> Answer
     ensures { λ r. ⌜ meaning r
         ≡ guardedText (now (text .entry)) 0
-        (guardedSnapshot machine extras (now (addresses .entry)) (now (numbers .entry)) (now (marks .entry)) (now (tape .entry)) (now (output .entry)))
+        (guardedSnapshot machine extras (now (addresses .entry)) (now (numbers .entry)) (now (marks .entry))
+        (now (tape .entry)) (now (output .entry)))
         .answer ⌝ }
 {
     calling::checks::check_text(
@@ -213,7 +223,8 @@ pub fn check_budget_text(
 ) -> Answer
     ensures { λ r. ⌜ meaning r
         ≡ guardedCall (jobProgram (loadBudgetText (now (text .entry)))) 0
-        (guardedSnapshot machine extras (now (addresses .entry)) (now (numbers .entry)) (now (marks .entry)) (now (tape .entry)) (now (output .entry)))
+        (guardedSnapshot machine extras (now (addresses .entry)) (now (numbers .entry)) (now (marks .entry))
+        (now (tape .entry)) (now (output .entry)))
         .answer ⌝ }
 {
     calling::checks::check_budget_text(

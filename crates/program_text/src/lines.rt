@@ -103,7 +103,13 @@ pub(crate) fn malformed_line(text: &[u8], at: usize, frames: usize) -> Refusal
 }
 
 // Reads words of 16 digits each from a place on into the buffer; false where some character is no digit.
-fn read_words(text: &[u8], at: usize, count: usize, used: usize, words: &mut [u64; WORD_LIMIT]) -> bool
+fn read_words(
+    text: &[u8],
+    at: usize,
+    count: usize,
+    used: usize,
+    words: &mut [u64; WORD_LIMIT],
+) -> bool
     requires { ⌜ at + 16 * count ≤ length (now text) ⌝ }
     requires { ⌜ (used + count ≤ wordLimit) × (length (now words) ≡ wordLimit) ⌝ }
     ensures { λ r. ⌜ ReadsWords (drop at (now (text .entry))) count used (now (words .entry)) (now (words .exit)) r ⌝ }
