@@ -37,9 +37,11 @@ module _ {mode : Mode} (program : Result (List Instruction)) (budget : ℕ) (f :
     checks-plain h = h ∙ ap (λ (c : Called GuardedSnapshot). c .answer) in-mode
 
   module _ {extras : Marks} (e : mode ≡ record { guarded = true; extras = extras }) where
-    pub as-guarded : {c : Called GuardedSnapshot} → c ≡ modeCall (mode .guarded) program budget (f (mode .extras)) → c ≡ guardedCall program budget (f extras)
+    pub as-guarded : (r : Ran) {xs ns ts tape output : List ℕ}
+        → guardedCalled r xs ns ts tape output ≡ modeCall (mode .guarded) program budget (f (mode .extras))
+        → guardedCalled r xs ns ts tape output ≡ guardedCall program budget (f extras)
     unfolding modeCall
-    as-guarded h = h ∙ ap (λ (m : Mode). modeCall (m .guarded) program budget (f (m .extras))) e
+    as-guarded r h = h ∙ ap (λ (m : Mode). modeCall (m .guarded) program budget (f (m .extras))) e
 
     pub checks-guarded : {a : Meaning} → a ≡ modeCall (mode .guarded) program budget (f (mode .extras)) .answer
         → a ≡ guardedCall program budget (f extras) .answer

@@ -32,7 +32,9 @@ same-length : tie.Need-same-length
 same-length c = search needs
 
 returns : tie.Need-returns
-returns c = solved _ _ _ _ _ _ _ _ _ _ (c .before .before .before .before .before .before .before .before .before .before .before .before .before .before .before .start .ensures) (c .before .before .before .before .before .before .before .before .before .before .run-budget-text .ensures .0) (c .before .before .print .ensures)
+returns c =
+    let called = c .before .before .before .before .before .before .before .before .before .before .run-budget-text in
+    solved _ _ (called .result) _ _ _ _ _ _ _ (c .before .before .before .before .before .before .before .before .before .before .before .before .before .before .before .start .ensures) (called .ensures .0) (c .before .before .print .ensures)
 
 pub solve-spec : {M : Type 1} → statement M
 solve-spec =

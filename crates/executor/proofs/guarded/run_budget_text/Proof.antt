@@ -34,7 +34,7 @@ unfolding guardedBudgetText
 returns c =
     let a = c .before .before .before .before .before .before .before .before .before .before .before .before .before .before .before .before .before .before .before .before .before .before .before .args in
     as-guarded (jobProgram (loadBudgetText (a .text .now))) (jobBudget (loadBudgetText (a .text .now))) (λ (m : Marks). guardedSnapshot (a .machine) m (a .addresses .now) (a .numbers .now) (a .marks .now) (a .tape .now) (a .output .now))
-    (c .before .before .before .before .before .before .before .before .before .before .before .before .before .before .before .before .mode .ensures) (c .before .before .before .before .before .before .before .before .before .before .run-budget-text .ensures)
+    (c .before .before .before .before .before .before .before .before .before .before .before .before .before .before .before .before .mode .ensures) (c .before .before .before .before .before .before .before .before .before .before .run-budget-text .result) (c .before .before .before .before .before .before .before .before .before .before .run-budget-text .ensures)
 
 pub run-budget-text-spec : {M : Type 1} → statement M
 run-budget-text-spec = tie.close (tie.spec mode-requires run-budget-text-requires same-length same-length-2 same-length-3 same-length-4 same-length-5 returns)

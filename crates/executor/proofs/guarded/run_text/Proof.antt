@@ -34,7 +34,7 @@ unfolding guardedText
 returns c =
     let a = c .before .before .before .before .before .before .before .before .before .before .before .before .before .before .before .before .before .before .before .before .before .before .before .args in
     as-guarded (loadText (a .text .now)) (a .budget) (λ (m : Marks). guardedSnapshot (a .machine) m (a .addresses .now) (a .numbers .now) (a .marks .now) (a .tape .now) (a .output .now))
-    (c .before .before .before .before .before .before .before .before .before .before .before .before .before .before .before .before .mode .ensures) (c .before .before .before .before .before .before .before .before .before .before .run-text .ensures)
+    (c .before .before .before .before .before .before .before .before .before .before .before .before .before .before .before .before .mode .ensures) (c .before .before .before .before .before .before .before .before .before .before .run-text .result) (c .before .before .before .before .before .before .before .before .before .before .run-text .ensures)
 
 pub run-text-spec : {M : Type 1} → statement M
 run-text-spec = tie.close (tie.spec mode-requires run-text-requires same-length same-length-2 same-length-3 same-length-4 same-length-5 returns)

@@ -34,7 +34,7 @@ unfolding guardedWords
 returns c =
     let a = c .before .before .before .before .before .before .before .before .before .before .before .before .before .before .before .before .before .before .before .before .before .before .before .args in
     as-guarded (loadWords (a .words .now)) (a .budget) (λ (m : Marks). guardedSnapshot (a .machine) m (a .addresses .now) (a .numbers .now) (a .marks .now) (a .tape .now) (a .output .now))
-    (c .before .before .before .before .before .before .before .before .before .before .before .before .before .before .before .before .mode .ensures) (c .before .before .before .before .before .before .before .before .before .before .run-words .ensures)
+    (c .before .before .before .before .before .before .before .before .before .before .before .before .before .before .before .before .mode .ensures) (c .before .before .before .before .before .before .before .before .before .before .run-words .result) (c .before .before .before .before .before .before .before .before .before .before .run-words .ensures)
 
 pub run-words-spec : {M : Type 1} → statement M
 run-words-spec = tie.close (tie.spec mode-requires run-words-requires same-length same-length-2 same-length-3 same-length-4 same-length-5 returns)
