@@ -6,7 +6,7 @@ with their stored output. Progress goes to standard error, the table to standard
 
 - the unchanged copy is not accepted by all programs,
 - a fault is noticed by none, does not build, or keeps a program from ending,
-- an opcode, an operand kind, a refusal, a mark rule or a listed use of document 01 has no fault, or a rule of document 02.
+- an opcode, an operand kind, a refusal, a mark rule or a sink of document 01 has no fault, or a rule of document 02.
 """
 
 import argparse
@@ -55,7 +55,7 @@ MARK_RULES = [
     "return pcs are unmarked",
 ]
 
-LISTED_USES = (
+SINKS = (
     [f"{operand} of {opcode}" for opcode in ["MLOAD", "MSTORE", "AND", "OR", "XOR", "GTE"] for operand in ["op0", "op1"]]
     + [f"op1 of {opcode}" for opcode in ["ASSERT", "RC", "JMP", "CJMP", "CALL"]]
     + ["op0 of CJMP", "R9 of CALL", "R9 of RET", "op0 of TLOAD", "op1 of TLOAD", "dst of TLOAD"]
@@ -72,7 +72,7 @@ REQUIRED = (
     + [f"operand kind {kind}" for kind in OPERAND_KINDS]
     + [f"refusal {number}" for number in REFUSALS]
     + [f"mark rule: {rule}" for rule in MARK_RULES]
-    + [f"listed use: {use}" for use in LISTED_USES]
+    + [f"sink: {sink}" for sink in SINKS]
     + REQUESTS
 )
 
