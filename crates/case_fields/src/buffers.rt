@@ -7,7 +7,7 @@ ghost use lib.ListN.{length};
 ghost use Rattle.io.specs.Counts.{Counts};
 ghost use Rattle.case_fields.specs.Parts.{IsPart, longest, size};
 
-// Takes as many numbers out of a part as there is room for.
+// Takes as many numbers out of a part as fit.
 pub(crate) fn take(fields: &Fields, part: usize, numbers: &mut [u64])
     requires { ⌜ IsPart part ⌝ }
     requires { ⌜ length (now numbers) ≤ longest ⌝ }

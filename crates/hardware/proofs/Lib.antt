@@ -9,4 +9,4 @@ pub mod WriteLaws
 pub mod PartLaws
 pub mod BufferLaws
 pub mod OverwriteLaws
-pub mod RoomLaws
+pub mod InsertLaws

@@ -385,9 +385,9 @@ fn number_cells(start: u64, addresses: &mut [u64])
     }
 }
 
-// Makes room for the n cells from an address on, at their place `low`; how many cells are used afterwards. What lies behind them moves up
+// Puts in the n cells from an address on, at their place `low`; how many cells are used afterwards. What lies behind them moves up
 // once, by as many places as cells are new. Their contents are still to be written.
-fn make_room(
+fn insert_span(
     guarded: bool,
     count: usize,
     low: usize,
@@ -445,7 +445,7 @@ pub fn store_many(
         }
         Span::Absent => {
             let low = rank_of(&addresses[..count], start);
-            let used = make_room(
+            let used = insert_span(
                 guarded,
                 count,
                 low,

@@ -159,7 +159,7 @@ stateRefusals =
     -- clk at least 10^12
     refusedState (handedIn 0 0 0 1000000000000 [] [] [] [])
     ∷ passedState (handedIn 0 0 0 999999999999 [] [] [] [])
-    -- a count above its lent length: cells, tape, output
+    -- a count above its capacity: cells, tape, output
     ∷ refusedState (withCells (5 ∷ []) (5 ∷ []))
     ∷ passedState (withCells (5 ∷ 6 ∷ []) (5 ∷ 6 ∷ []))
     ∷ refusedState (handedIn 0 2 0 0 [] [] (5 ∷ []) [])

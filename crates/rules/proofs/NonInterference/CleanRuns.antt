@@ -1,4 +1,4 @@
--- Where no place is marked, none becomes guarded, and no step reaches a listed use.
+-- Where no place is marked, none becomes marked, and no step reaches a sink.
 use Prim.Native.Nat.{ℕ}
 use mathlib.Core.Path.{_≡_, refl, sym, ap, _∙_}
 use mathlib.Core.Bool.{Bool, true, false, _||_}

@@ -1,4 +1,4 @@
--- `case_fields::machines::put_machine`: each list of numbers has room in its part.
+-- `case_fields::machines::put_machine`: each list of numbers fits in its part.
 use mathlib.Core.Path.{_≡_}
 use native.Mathlib.Omega.{arith}
 use lib.ListN.{length}

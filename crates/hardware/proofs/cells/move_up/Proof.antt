@@ -6,7 +6,7 @@ use native.Mathlib.Nat.{le-refl}
 use native.Mathlib.Omega.{arith}
 use lib.ListN.{length, getD, set, length-set}
 use Rattle.hardware.specs.Places.{moved}
-use Rattle.hardware.proofs.RoomLaws.{moved-none, moved-next}
+use Rattle.hardware.proofs.InsertLaws.{moved-none, moved-next}
 use Rattle.hardware.proofs.cells.move_up.Statement.{statement}
 use Rattle.hardware.proofs.cells.move_up.Tie as tie
 

@@ -1,4 +1,4 @@
--- `hardware::cells::store_many` meets its contract: where all cells are present only their contents change, else room is made for them.
+-- `hardware::cells::store_many` meets its contract: where all cells are present only their contents change, else they are put in.
 use mathlib.Core.Path.{refl, sym, _∙_}
 use Prim.Native.Nat.{_+_, _≤_}
 use native.Mathlib.Omega.{arith}
@@ -8,7 +8,7 @@ use Rattle.rules.specs.Numbers.{wordEnd}
 use Rattle.hardware.specs.Buffers.{missing}
 use Rattle.hardware.proofs.BufferLaws.{span-at, span-ends}
 use Rattle.hardware.proofs.OverwriteLaws.{within-words, overwritten-holds}
-use Rattle.hardware.proofs.RoomLaws.{room, count-stored, room-holds}
+use Rattle.hardware.proofs.InsertLaws.{places-for, count-stored, places-hold}
 use borrow.Author.Needs.{needs}
 use Rattle.hardware.proofs.cells.store_many.Statement.{statement}
 use Rattle.hardware.proofs.cells.store_many.Tie as tie
@@ -52,9 +52,9 @@ slice-aggregate-rank-of c = sym (length-take-le _ _ (c .before .before .before .
 rank-of-requires : tie.Need-rank-of-requires
 rank-of-requires c κs = search needs
 
-make-room-requires : tie.Need-make-room-requires
+insert-span-requires : tie.Need-insert-span-requires
 unfolding wordEnd
-make-room-requires c κs =
+insert-span-requires c κs =
     let s = c .before .before .before .before .before .before .before .before .before .before .before .before .before in
     let l = c .before .before .before .rank-of .ensures in
     (s .pre .0, (l, (within-words (s .args .start) (length (s .args .values .now)) (omega arith) (s .pre .1 .0), fits s)))
@@ -65,7 +65,7 @@ overwrite-requires-2 c κs =
     let a = s .args in
     let o = s .pre .0 in
     let l = c .before .before .before .before .before .before .before .before .before .before .before .before .rank-of .ensures in
-    let r = room (a .count) (a .addresses .now) (o .addresses) (a .start) (length (a .values .now)) _ _ l refl (fits s) in
+    let r = places-for (a .count) (a .addresses .now) (o .addresses) (a .start) (length (a .values .now)) _ _ l refl (fits s) in
     (omega (arith, o .level), λ t. omega (arith, o .level, o .markLevel t))
 
 same-length : tie.Need-same-length
@@ -98,10 +98,10 @@ returns-2 : tie.Need-returns-2
 returns-2 c =
     let s = c .before .before .before .before .before .before .before .before .before .before .before .before .before .before .before .before .before .before .before .before .before .before .before .before .before .before .before in
     let a = s .args in
-    let m = c .before .before .before .before .before .before .before .before .before .before .before .before .before .make-room .ensures in
+    let m = c .before .before .before .before .before .before .before .before .before .before .before .before .before .insert-span .ensures in
     let w = c .before .before .before .before .overwrite2 .ensures in
     let l = c .before .before .before .before .before .before .before .before .before .before .before .before .before .before .before .before .before .rank-of .ensures in
-    room-holds (a .guarded) (a .count) (a .addresses .now) (a .numbers .now) (a .marks .now) (s .pre .0) (a .start) (a .values .now) _ l (fits s)
+    places-hold (a .guarded) (a .count) (a .addresses .now) (a .numbers .now) (a .marks .now) (s .pre .0) (a .start) (a .values .now) _ l (fits s)
     _ _ _ _ _ _ (m .0) (m .1 .0) (m .1 .1 .0) (m .1 .1 .1) (w .0) (w .1)
 
 pub store-many-spec : {M : Type 1} → statement M
@@ -115,7 +115,7 @@ store-many-spec =
     slice-reshare-prefix-rank-of
     slice-aggregate-rank-of
     rank-of-requires
-    make-room-requires
+    insert-span-requires
     overwrite-requires-2
     same-length
     same-length-2

@@ -1,4 +1,4 @@
--- Room for new cells: what lies behind moves up, and the room that is left is written. Together they are the splice of a store of many.
+-- New cells put in: what lies behind moves up, and the places that are left are written. Together they are the splice of a store of many.
 use Prim.Native.Nat.{ℕ, zero, suc, _+_, _-_, _≤_, _<_}
 use mathlib.Core.Path.{_≡_, refl, sym, ap, _∙_}
 use mathlib.Core.Bool.{Bool, true, false}
@@ -51,7 +51,7 @@ moved-next n k i j l e h m =
     ∙ ap (λ (q : ℕ). overwritten (j + k) (getD (take n l) j 0 ∷ drop q (take n l)) l) e
     ∙ ap (λ (us : List ℕ). overwritten (j + k) us l) (sym d)
 
--- values in the room that is left
+-- values in the places that are left
 
 filled-before : (i j : ℕ) (vs us l : List ℕ) → j ≡ i + length vs → j ≤ length l
     → overwritten i vs (overwritten j us l) ≡ overlay (take i l ++ (vs ++ us)) l
@@ -64,36 +64,36 @@ filled-before (suc i) (suc j) vs us [] e h = absurd (omega arith)
 filled-before zero (suc j) (v ∷ vs) us (x ∷ l) e h = ap (λ (l : List ℕ). v ∷ l) (filled-before zero j vs us l (omega arith) (omega arith))
 filled-before (suc i) (suc j) vs us (x ∷ l) e h = ap (λ (l : List ℕ). x ∷ l) (filled-before i j vs us l (omega arith) (omega arith))
 
-room-filled : (n low high k : ℕ) (vs l : List ℕ) → k ≡ length vs → low ≤ n → low + k ≤ length l
+places-filled : (n low high k : ℕ) (vs l : List ℕ) → k ≡ length vs → low ≤ n → low + k ≤ length l
     → overwritten low vs (moved n high (low + k) l) ≡ overlay (spliced low high vs (take n l)) l
-room-filled n low high k vs l e h m =
+places-filled n low high k vs l e h m =
     filled-before low (low + k) vs (drop high (take n l)) l (omega arith) m
     ∙ ap (λ (us : List ℕ). overlay (us ++ (vs ++ drop high (take n l))) l) (sym (take-take low n l h))
 
--- the same of the addresses: the room is lent, j elements, and comes back with consecutive ones
-pub room-numbered : (n low high k j a : ℕ) (l us ys : List ℕ) → j ≡ k → low ≤ n → low + k ≤ length l → length us ≡ length l
+-- the same of the addresses: the places are lent, j elements, and come back with consecutive ones
+pub places-numbered : (n low high k j a : ℕ) (l us ys : List ℕ) → j ≡ k → low ≤ n → low + k ≤ length l → length us ≡ length l
     → us ≡ moved n high (low + k) l → ys ≡ consecutive a (length (take j (drop low us)))
     → take low us ++ (ys ++ drop j (drop low us)) ≡ overlay (spliced low high (consecutive a k) (take n l)) l
-room-numbered n low high k j a l us ys e h m q f g =
+places-numbered n low high k j a l us ys e h m q f g =
     let c : length (consecutive a k) ≡ k = length-consecutive a k in
     let w : ys ≡ consecutive a k = g ∙ ap (consecutive a) (part-length low j (consecutive a k) us (omega arith) (omega arith) ∙ c) in
     part-back low j (consecutive a k) us (omega arith) (omega arith) ys (ap length w)
     ∙ ap (λ (z : List ℕ). overwritten low z us) w
     ∙ ap (overwritten low (consecutive a k)) f
-    ∙ room-filled n low high k (consecutive a k) l (sym c) h m
+    ∙ places-filled n low high k (consecutive a k) l (sym c) h m
 
 -- In buffers
 
--- the room for k cells, of which some are present, lies within the buffers
-pub record Room (n : ℕ) (xs : List ℕ) (a k low high : ℕ) : Type 0 where
+-- the places for k cells, of which some are present, lie within the buffers
+pub record PlacesFor (n : ℕ) (xs : List ℕ) (a k low high : ℕ) : Type 0 where
   pub rises : low ≤ high
   pub used : high ≤ n
   pub new : k ≡ missing (take n xs) a k + (high - low)
   pub fits : n + missing (take n xs) a k ≤ length xs
 
-pub room : (n : ℕ) (xs : List ℕ) → Rising n xs → (a k low high : ℕ) → low ≡ rank (take n xs) a → high ≡ rank (take n xs) (a + k)
-    → n + missing (take n xs) a k ≤ length xs → Room n xs a k low high
-room n xs o a k low high e f h =
+pub places-for : (n : ℕ) (xs : List ℕ) → Rising n xs → (a k low high : ℕ) → low ≡ rank (take n xs) a → high ≡ rank (take n xs) (a + k)
+    → n + missing (take n xs) a k ≤ length xs → PlacesFor n xs a k low high
+places-for n xs o a k low high e f h =
     record {
       rises = ranks-rise n xs o a k low high e f;
       used = rank-used n xs o (a + k) high f;
@@ -106,8 +106,8 @@ module _ (n : ℕ) (xs bs : List ℕ) (o : Rising n xs) (l : length bs ≡ lengt
   contents-filled : n + missing (take n xs) a k ≤ length xs
       → overwritten low vs (moved n high (low + k) bs) ≡ overlay (contents (putMany (cellsOf n xs bs) a vs)) bs
   contents-filled h =
-      let r : Room n xs a k low high = room n xs o a k low high e f h in
-      room-filled n low high k vs bs q (omega arith) (omega arith)
+      let r : PlacesFor n xs a k low high = places-for n xs o a k low high e f h in
+      places-filled n low high k vs bs q (omega arith) (omega arith)
       ∙ ap (λ (z : List ℕ). overlay z bs) (sym (splice n xs bs o l a k vs q low high e f .1))
 
 pub count-stored : (n : ℕ) (xs bs : List ℕ) → Rising n xs → length bs ≡ length xs → (a : ℕ) (vs : List ℕ)
@@ -130,12 +130,12 @@ module _ (guarded : Bool) (n : ℕ) (xs ns ts : List ℕ) (o : Ordered guarded n
       ∙ ap (λ (t : Cells ℕ). overlay (contents t) ts) (sym (clean-zeros (cellsOf n xs ts) a vs))
   marks-filled false q ts₁ g = g
 
-  pub room-holds : (r : ℕ) (xs′ ns₁ ts₁ ns′ ts′ : List ℕ) → r ≡ n + missing (take n xs) a (length vs)
+  pub places-hold : (r : ℕ) (xs′ ns₁ ts₁ ns′ ts′ : List ℕ) → r ≡ n + missing (take n xs) a (length vs)
       → xs′ ≡ overlay (spliced low high (consecutive a (length vs)) (take n xs)) xs
       → ns₁ ≡ moved n high (low + length vs) ns → ts₁ ≡ choose guarded (moved n high (low + length vs) ts) ts
       → ns′ ≡ overwritten low vs ns₁ → ts′ ≡ choose guarded (overwritten low (zeros vs) ts₁) ts₁
       → Holding guarded (putMany (cellsOf n xs ns) a vs) (cleanMany markCells (cellsOf n xs ts) a vs) r xs ns ts xs′ ns′ ts′
-  room-holds r xs′ ns₁ ts₁ ns′ ts′ u f g k i j =
+  places-hold r xs′ ns₁ ts₁ ns′ ts′ u f g k i j =
       let s = splice n xs ns (o .addresses) (o .level) a (length vs) vs refl low high e refl in
       record {
         used = u ∙ sym (count-stored n xs ns (o .addresses) (o .level) a vs);

@@ -1,4 +1,4 @@
--- `hardware::cells::make_room` meets its contract: two ranks tell how many cells are new, and so how far what lies behind them moves.
+-- `hardware::cells::insert_span` meets its contract: two ranks tell how many cells are new, and so how far what lies behind them moves.
 use Prim.Native.Nat.{ℕ, _+_, _-_}
 use mathlib.Core.Path.{_≡_, sym, ap, _∙_}
 use mathlib.Core.Bool.{Bool}
@@ -9,10 +9,10 @@ use lib.Seq.{length-take-le}
 use Rattle.rules.specs.Numbers.{wordEnd, choose}
 use Rattle.hardware.specs.Buffers.{rank}
 use Rattle.hardware.specs.Places.{moved}
-use Rattle.hardware.proofs.RoomLaws.{room-numbered, Room, room}
+use Rattle.hardware.proofs.InsertLaws.{places-numbered, PlacesFor, places-for}
 use borrow.Author.Needs.{needs}
-use Rattle.hardware.proofs.cells.make_room.Statement.{statement}
-use Rattle.hardware.proofs.cells.make_room.Tie as tie
+use Rattle.hardware.proofs.cells.insert_span.Statement.{statement}
+use Rattle.hardware.proofs.cells.insert_span.Tie as tie
 
 add-rank-of : tie.Need-add-rank-of
 unfolding wordEnd
@@ -27,7 +27,7 @@ slice-aggregate-rank-of c = sym (length-take-le _ _ (c .before .before .before .
 rank-of-requires : tie.Need-rank-of-requires
 rank-of-requires c κs = search needs
 
--- where the end of the room was found
+-- where the end of the places was found
 module _ (c : tie.After-rank-of) where
   abbrev entry : tie.Start
   entry = c .before .before .before .before .before
@@ -35,14 +35,14 @@ module _ (c : tie.After-rank-of) where
   abbrev high : ℕ
   high = rank (take (entry .args .count) (entry .args .addresses .now)) (entry .args .start + entry .args .n)
 
-  found : Room (entry .args .count) (entry .args .addresses .now) (entry .args .start) (entry .args .n) (entry .args .low) (c .rank-of .result)
+  found : PlacesFor (entry .args .count) (entry .args .addresses .now) (entry .args .start) (entry .args .n) (entry .args .low) (c .rank-of .result)
   found =
       let a = entry .args in
       let o = entry .pre in
-      room (a .count) (a .addresses .now) (o .0 .addresses) (a .start) (a .n) (a .low) (c .rank-of .result)
+      places-for (a .count) (a .addresses .now) (o .0 .addresses) (a .start) (a .n) (a .low) (c .rank-of .result)
       (o .1 .0) (c .rank-of .ensures) (o .1 .1 .1)
 
-  -- what moves up by the new cells moves behind the room
+  -- what moves up by the new cells moves behind the places
 
   abbrev shifted : List ℕ → List ℕ
   shifted = moved (entry .args .count) (c .rank-of .result) (c .rank-of .result + (entry .args .n - (c .rank-of .result - entry .args .low)))
@@ -125,7 +125,7 @@ returns c =
     let w = c .before .before .number-cells in (
       omega arith,
       (
-        room-numbered (a .count) (a .low) (high f) (a .n) (a .low + a .n - a .low) (a .start) (a .addresses .now) (u .last .1 .1 .1 .0) (w .last .1 .0)
+        places-numbered (a .count) (a .low) (high f) (a .n) (a .low + a .n - a .low) (a .start) (a .addresses .now) (u .last .1 .1 .1 .0) (w .last .1 .0)
             e (omega arith) (omega arith) (omega arith) (moved-behind f (a .addresses .now) _ (u .ensures)) (w .ensures),
         (
           moved-behind f (a .numbers .now) _ (m .0),
@@ -134,8 +134,8 @@ returns c =
       ),
     )
 
-pub make-room-spec : {M : Type 1} → statement M
-make-room-spec =
+pub insert-span-spec : {M : Type 1} → statement M
+insert-span-spec =
     tie.close
     (tie.spec
     slice-reshare-prefix-rank-of
