@@ -18,7 +18,7 @@ use Rattle.rules.proofs.Laws.BoolLaws.{false-true, and-right}
 use Rattle.rules.proofs.Laws.EntryLaws.{all-at}
 use Rattle.interpreter.specs.Runs.{atClock, PassedEntry, Runs}
 use Rattle.interpreter.proofs.BothRuns.{runs-guarded, runs-plain}
-use Rattle.calling.specs.ModeCalls.{modeEntry, modeCall, beside}
+use Rattle.calling.specs.ModeCalls.{modeEntry, modeCall, callBeside}
 
 -- What passed the tests
 
@@ -66,7 +66,7 @@ module _ (program : List Instruction) (budget : ℕ) (g : GuardedSnapshot) (c : 
   answered-guarded true e h k = rw h k
   answered-guarded false e h k = absurd (false-true e)
 
-  answered-plain : (guarded : Bool) → guarded ≡ false → modeEntry guarded g ≡ true → c ≡ beside g (plainAnswered (g .plain) (plainRunOf program budget (g .plain)))
+  answered-plain : (guarded : Bool) → guarded ≡ false → modeEntry guarded g ≡ true → c ≡ callBeside g (plainAnswered (g .plain) (plainRunOf program budget (g .plain)))
       → c ≡ modeCall guarded (pass program) budget g
   unfolding modeEntry modeCall plainCall
   answered-plain true e h k = absurd (false-true (sym e))

@@ -14,7 +14,8 @@ ghost use Rattle.rules.specs.Text.{loadText, loadBudgetText};
 ghost use Rattle.rules.specs.Answers.{meaning};
 ghost use Rattle.rules.specs.Calls.{jobProgram};
 ghost use Rattle.program.specs.WordLoads.{checkedOf, checkMeaning};
-ghost use Rattle.calling.specs.ModeCalls.{modeEntry, modeCall, handed};
+ghost use Rattle.interpreter.specs.Runs.{handed};
+ghost use Rattle.calling.specs.ModeCalls.{modeEntry, modeCall};
 
 // Is what is handed in fit? Marks are looked at in a guarded call only.
 pub(crate) fn accepts(

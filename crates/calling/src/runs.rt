@@ -20,9 +20,9 @@ ghost use Rattle.rules.specs.Frames.{loadWords};
 ghost use Rattle.rules.specs.Text.{loadText, loadBudgetText};
 ghost use Rattle.rules.specs.Calls.{jobBudget, jobProgram};
 ghost use Rattle.rules.specs.Handed.{guardedCalled};
-ghost use Rattle.program.specs.Table.{programOf, EmptyRows};
-ghost use Rattle.interpreter.specs.Runs.{Loaded};
-ghost use Rattle.calling.specs.ModeCalls.{modeCall, handed, Unmarked};
+ghost use Rattle.program.specs.Table.{programOf, wordSlot, EmptyRows};
+ghost use Rattle.interpreter.specs.Runs.{Loaded, handed};
+ghost use Rattle.calling.specs.ModeCalls.{modeCall, PlainHasNoMarks};
 
 // A call refused at entry.
 fn refuse(mode: Mode, machine: Machine, refusal: Refusal) -> Ran
@@ -53,8 +53,8 @@ fn enter(
     values: &mut [u64],
 ) -> Ran
     requires { ⌜ Loaded (now words) (now rows) ⌝ }
-    requires { ⌜ 14 + length (now words) ≤ length (now values) ⌝ }
-    requires { ⌜ Unmarked mode (now marks) ⌝ }
+    requires { ⌜ wordSlot + length (now words) ≤ length (now values) ⌝ }
+    requires { ⌜ PlainHasNoMarks mode (now marks) ⌝ }
     ensures { λ r. ⌜ guardedCalled r (now (addresses .exit)) (now (numbers .exit)) (now (marks .exit))
         (now (tape .exit)) (now (output .exit))
         ≡ modeCall (mode .guarded) (pass (programOf (now (words .entry)))) budget
@@ -118,8 +118,8 @@ fn load_and_enter(
     values: &mut [u64],
 ) -> Ran
     requires { ⌜ EmptyRows (now words) (now rows) ⌝ }
-    requires { ⌜ (length (now words) ≤ wordLimit → 14 + length (now words) ≤ length (now values)) ⌝ }
-    requires { ⌜ Unmarked mode (now marks) ⌝ }
+    requires { ⌜ (length (now words) ≤ wordLimit → wordSlot + length (now words) ≤ length (now values)) ⌝ }
+    requires { ⌜ PlainHasNoMarks mode (now marks) ⌝ }
     ensures { λ r. ⌜ guardedCalled r (now (addresses .exit)) (now (numbers .exit)) (now (marks .exit))
         (now (tape .exit)) (now (output .exit))
         ≡ modeCall (mode .guarded) (loadWords (now (words .entry))) budget
@@ -156,7 +156,7 @@ pub fn run_words(
     tape: &mut [u64],
     output: &mut [u64],
 ) -> Ran
-    requires { ⌜ Unmarked mode (now marks) ⌝ }
+    requires { ⌜ PlainHasNoMarks mode (now marks) ⌝ }
     ensures { λ r. ⌜ guardedCalled r (now (addresses .exit)) (now (numbers .exit)) (now (marks .exit))
         (now (tape .exit)) (now (output .exit))
         ≡ modeCall (mode .guarded) (loadWords (now (words .entry))) budget
@@ -226,7 +226,7 @@ pub fn run_text(
     tape: &mut [u64],
     output: &mut [u64],
 ) -> Ran
-    requires { ⌜ Unmarked mode (now marks) ⌝ }
+    requires { ⌜ PlainHasNoMarks mode (now marks) ⌝ }
     ensures { λ r. ⌜ guardedCalled r (now (addresses .exit)) (now (numbers .exit)) (now (marks .exit))
         (now (tape .exit)) (now (output .exit))
         ≡ modeCall (mode .guarded) (loadText (now (text .entry))) budget
@@ -264,7 +264,7 @@ pub fn run_budget_text(
     tape: &mut [u64],
     output: &mut [u64],
 ) -> Ran
-    requires { ⌜ Unmarked mode (now marks) ⌝ }
+    requires { ⌜ PlainHasNoMarks mode (now marks) ⌝ }
     ensures { λ r. ⌜ guardedCalled r (now (addresses .exit)) (now (numbers .exit)) (now (marks .exit))
         (now (tape .exit)) (now (output .exit))
         ≡ modeCall (mode .guarded) (jobProgram (loadBudgetText (now (text .entry)))) (jobBudget (loadBudgetText (now (text .entry))))

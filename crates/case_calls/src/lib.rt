@@ -1,6 +1,6 @@
 // One call that a case asks for: the state is taken out of the fields, and what the call leaves is put into fields again. The call is
 // lent buffers of this crate's own.
-mod entries;
+mod forms;
 
 use case_fields::buffers::fill;
 use case_fields::buffers::put_buffers;
@@ -20,7 +20,7 @@ pub enum Run {
 }
 
 // The library's functions that a case can ask for, each plain and guarded; some take a budget. `Step` steps a record where it is kept.
-pub enum Entry {
+pub enum Form {
     Step,
     Words(u64),
     Text(u64),
@@ -28,9 +28,9 @@ pub enum Entry {
 }
 
 // Calls from the state of some fields, and puts what the call leaves into others.
-pub fn call(run: Run, entry: Entry, text: &[u8], fields: &Fields, next: &mut Fields) -> Ran {
+pub fn call(run: Run, form: Form, text: &[u8], fields: &Fields, next: &mut Fields) -> Ran {
     let words = words_of(fields);
-    let bytes = first_bytes(text, fields[parts::TEXT_LENGTH] as usize);
+    let bytes = first_bytes(fields[parts::TEXT_LENGTH] as usize, text);
     let machine = machine_of(fields);
     let extras = Marks {
         registers: fields[parts::REGISTER_MARKS],
@@ -50,9 +50,9 @@ pub fn call(run: Run, entry: Entry, text: &[u8], fields: &Fields, next: &mut Fie
     let marks_length = fill(fields, parts::MARKS, parts::MARKS_LENGTH, &mut marks);
     let tape_length = fill(fields, parts::TAPE, parts::TAPE_LENGTH, &mut tape);
     let output_length = fill(fields, parts::OUTPUT, parts::OUTPUT_LENGTH, &mut output);
-    let ran = entries::enter(
+    let ran = forms::enter(
         run,
-        entry,
+        form,
         words,
         bytes,
         machine,
@@ -73,7 +73,7 @@ pub fn call(run: Run, entry: Entry, text: &[u8], fields: &Fields, next: &mut Fie
 fn words_of(fields: &Fields) -> &[u64] {
     let all = &fields[..];
     let count = fields[parts::WORDS] as usize;
-    report::used_output(&all[1..parts::PART], count)
+    report::used_output(count, &all[1..parts::PART])
 }
 
 // A plain call is not handed the marks of the registers, and leaves them.

@@ -8,7 +8,7 @@ use crate::parts::ZEROS;
 const AFTER_LINE: usize = 5;
 
 // The first bytes, so many or all.
-pub fn first_bytes(bytes: &[u8], count: usize) -> &[u8] {
+pub fn first_bytes(count: usize, bytes: &[u8]) -> &[u8] {
     if count <= bytes.len() {
         &bytes[..count]
     } else {

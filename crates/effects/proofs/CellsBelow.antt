@@ -9,9 +9,9 @@ use lib.ListN.{getD, take}
 use borrow.Author.Tests.{leb-true, leb-false, eqb-true, eqb-false, le-leb, lt-leb}
 use Rattle.rules.specs.declared.Refusal.the-variants.{CellAbsent}
 use Rattle.rules.specs.Results.{refuse, pass, require}
-use Rattle.rules.specs.Memory.{Slot, absent, present}
+use Rattle.rules.specs.Memory.{Content, absent, present}
 use Rattle.rules.specs.Cells.{Cells, get, numberCells, markCells}
-use Rattle.rules.specs.Step.{slotValue, readBelow}
+use Rattle.rules.specs.Step.{contentValue, readBelow}
 use Rattle.rules.specs.Guarded.{cellMark}
 use Rattle.rules.proofs.Laws.BoolLaws.{and-left, and-right}
 use Rattle.hardware.specs.declared.cells.Found.the-variants as Found
@@ -72,7 +72,7 @@ module _ (guarded : Bool) (n : ℕ) (xs ns ts : List ℕ) (o : Ordered guarded n
   unfolding require
   below-absent k i f = rw (get-absent n xs ns (o .addresses) (o .level) (r - k) i f) (go (leb k r))
     where
-      go : (s : Bool) → require s CellAbsent (slotValue numberCells absent) ≡ refuse CellAbsent
+      go : (s : Bool) → require s CellAbsent (contentValue numberCells absent) ≡ refuse CellAbsent
       go true = refl
       go false = refl
 
@@ -86,7 +86,7 @@ module _ (guarded : Bool) (n : ℕ) (xs ns ts : List ℕ) (o : Ordered guarded n
   unfolding require onResult
   second-refuses e = rw e (go (leb 1 r) (get c (r - 1)))
     where
-      go : (s : Bool) (q : Slot ℕ) → onResult (require s CellAbsent (slotValue numberCells q)) (λ pc. Refuse CellAbsent) ≡ Refuse CellAbsent
+      go : (s : Bool) (q : Content ℕ) → onResult (require s CellAbsent (contentValue numberCells q)) (λ pc. Refuse CellAbsent) ≡ Refuse CellAbsent
       go true absent = refl
       go true (present m) = refl
       go false q = refl

@@ -1,8 +1,9 @@
-// CALL and RET: the frame below R9.
+// CALL and RET: the two cells below R9.
 use crate::Effect;
 use crate::memory;
 use hardware::cells;
 use hardware::cells::Found;
+use program::slots;
 use rules::Refusal;
 ghost use mathlib.Core.List.{List};
 ghost use Prim.Native.Nat.{ℕ, _-_};
@@ -13,21 +14,21 @@ ghost use Rattle.effects.specs.Changes.{returnsFrom};
 ghost use Rattle.effects.specs.Operations.{withMark, hasCapacity, callsWhere};
 
 // CALL: the next pc goes below R9.
-pub fn call(target: u64, next: u64, frame: u64, count: usize, addresses: &[u64]) -> Effect
+pub fn call(target: u64, next: u64, r9: u64, count: usize, addresses: &[u64]) -> Effect
     requires { ⌜ Rising count (now addresses) ⌝ }
     ensures { λ r. ⌜ Means (take count (now (addresses .entry))) r
-        (λ t. callsWhere (hasCapacity (now (addresses .entry)) count (frame - 1) 1) frame next t target) ⌝ }
+        (λ t. callsWhere (hasCapacity (now (addresses .entry)) count (r9 - 1) 1) r9 next t target) ⌝ }
 {
-    if frame == 0 {
+    if r9 == 0 {
         return Effect::refuse(Refusal::StoreFault);
     }
-    memory::store_cell(frame - 1, next, target, count, addresses)
+    memory::store_cell(r9 - 1, next, target, count, addresses)
 }
 
 // RET: the pc from below R9, R9 from below that. The two cells stand side by side.
 pub fn return_from(
     guarded: bool,
-    frame: u64,
+    r9: u64,
     count: usize,
     addresses: &[u64],
     numbers: &[u64],
@@ -36,15 +37,15 @@ pub fn return_from(
     requires { ⌜ Ordered guarded count (now addresses) (now numbers) (now marks) ⌝ }
     ensures { λ r. ⌜ ((l : List ℕ)
         → Means l r (λ t. withMark t (returnsFrom guarded (cellsOf count (now (addresses .entry)) (now (numbers .entry)))
-        (cellsOf count (now (addresses .entry)) (now (marks .entry))) frame))) ⌝ }
+        (cellsOf count (now (addresses .entry)) (now (marks .entry))) r9))) ⌝ }
 {
-    if frame < 2 {
+    if r9 < 2 {
         return Effect::refuse(Refusal::CellAbsent);
     }
-    match cells::find(count, frame - 2, addresses) {
+    match cells::find(count, r9 - 2, addresses) {
         Found::Absent(_) => Effect::refuse(Refusal::CellAbsent),
         Found::At(at) => {
-            if !cells::is_next(count, at, frame - 1, addresses) {
+            if !cells::is_next(count, at, r9 - 1, addresses) {
                 return Effect::refuse(Refusal::CellAbsent);
             }
             let high = at + 1;
@@ -55,7 +56,7 @@ pub fn return_from(
             }
             let mark = guarded && cells::is_marked_at(at, marks);
             Effect::set_register(
-                9,
+                slots::R9,
                 cells::number_at(at, numbers),
                 mark,
                 cells::number_at(high, numbers),

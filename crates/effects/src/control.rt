@@ -35,7 +35,7 @@ pub fn check_range(a: u64, next: u64) -> Effect
 
 // CJMP. A marked op1 stops it after op0's test. The next pc is read only where it goes on there, so that this is a branch, which can be
 // predicted: chosen without one, all that follows would wait for op0.
-pub fn jump_where(rows: &[u16], row: Row, mark: bool, a: u64, target: u64) -> Effect
+pub fn jump_where(rows: &[u16], row: Row, a: u64, target: u64, mark: bool) -> Effect
     requires { ⌜ row .at + 8 ≤ length (now rows) ⌝ }
     ensures { λ r. ⌜ ((l : List ℕ) → Means l r (λ t. jumpsWhere a (pass target) mark (getD (now (rows .entry)) (row .at + 5) 0))) ⌝ }
 {

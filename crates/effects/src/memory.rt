@@ -16,7 +16,7 @@ ghost use Rattle.effects.specs.Effects.{Means};
 ghost use Rattle.effects.specs.Operations.{withMark, loadsAt, storesAt, testOf, hasCapacity, storesWhere};
 
 // A store's tests pass, or one refuses.
-pub enum Tested {
+pub(crate) enum Tested {
     Passes,
     Refused(Refusal),
 }

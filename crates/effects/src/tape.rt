@@ -23,7 +23,7 @@ ghost use Rattle.effects.specs.Changes.{check, sinkWhere, tapeFrom, tape
 ghost use Rattle.effects.specs.Operations.{testsOf, hasCapacity, loadsPart, onTapeOf, loadsTape, spanAmong, onSpan, partMark, more};
 
 // Where a span's first cell is, or its refusal.
-pub enum SpanFound {
+pub(crate) enum SpanFound {
     At(usize),
     Refused(Refusal),
 }

@@ -1,4 +1,6 @@
 // Eight characters in one word, the first in the highest byte, read as the hexadecimal number of their digits: all eight at once.
+//
+// Public: `number`, `packed`.
 use rules::HexWord;
 ghost use mathlib.Core.Path.{_≡_};
 ghost use Prim.Native.Nat.{_+_, _*_};

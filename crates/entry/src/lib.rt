@@ -24,7 +24,7 @@ pub const VALUE_LIMIT: usize = 4096;
 const MARKS_END: u64 = 1024;
 
 // The used part of a buffer: as far as the count and the buffer go.
-fn used(buffer: &[u64], count: usize) -> &[u64]
+fn used(count: usize, buffer: &[u64]) -> &[u64]
     ensures { λ r. ⌜ now r ≡ take count (now (buffer .entry)) ⌝ }
 {
     if buffer.len() < count {
@@ -54,7 +54,7 @@ fn rising(addresses: &[u64]) -> bool
 }
 
 // Is each number at most the limit?
-fn at_most(numbers: &[u64], limit: u64) -> bool
+fn at_most(limit: u64, numbers: &[u64]) -> bool
     ensures { λ r. ⌜ r ≡ every (λ n. leb n limit) (now (numbers .entry)) ⌝ }
 {
     let mut i = 0;
@@ -68,7 +68,7 @@ fn at_most(numbers: &[u64], limit: u64) -> bool
 }
 
 // A marked number has to be below p.
-fn mark_fits(marked: bool, number: u64) -> bool
+fn mark_fits(number: u64, marked: bool) -> bool
     ensures { λ r. ⌜ r ≡ (not marked || ltb number p) ⌝ }
 {
     if marked {
@@ -78,7 +78,7 @@ fn mark_fits(marked: bool, number: u64) -> bool
 }
 
 // Is each number with a mark of 1 below p?
-fn marked_below(marks: &[u64], numbers: &[u64]) -> bool
+fn marked_below(numbers: &[u64], marks: &[u64]) -> bool
     ensures { λ r. ⌜ r ≡ markedBelow (map (λ t. eqb t 1) (now (marks .entry))) (now (numbers .entry)) ⌝ }
 {
     let mut i = 0;
@@ -86,7 +86,7 @@ fn marked_below(marks: &[u64], numbers: &[u64]) -> bool
         if numbers.len() <= i {
             return true;
         }
-        if !mark_fits(marks[i] == 1, numbers[i]) {
+        if !mark_fits(numbers[i], marks[i] == 1) {
             return false;
         }
         i += 1;
@@ -95,13 +95,13 @@ fn marked_below(marks: &[u64], numbers: &[u64]) -> bool
 }
 
 // Is the number of each register whose bit is set below p?
-fn registers_below(word: u64, registers: [u64; 10]) -> bool
+fn registers_below(registers: [u64; 10], word: u64) -> bool
     ensures { λ r. ⌜ r ≡ markedBelow (lowBits 10 word) registers ⌝ }
 {
     let mut bits = word;
     let mut i = 0;
     while i < 10 {
-        if !mark_fits(bits % 2 == 1, registers[i]) {
+        if !mark_fits(registers[i], bits % 2 == 1) {
             return false;
         }
         bits = bits / 2;
@@ -151,10 +151,10 @@ pub fn accepts(
     if VALUE_LIMIT < output.len() {
         return false;
     }
-    if !rising(used(addresses, machine.cell_count)) {
+    if !rising(used(machine.cell_count, addresses)) {
         return false;
     }
-    at_most(used(numbers, machine.cell_count), Cell::LARGEST)
+    at_most(Cell::LARGEST, used(machine.cell_count, numbers))
 }
 
 // Do the marks pass? Tape and output do not matter.
@@ -185,12 +185,12 @@ pub fn accepts_marks(
         return false;
     }
     let registers = machine.registers;
-    if !registers_below(extras.registers, registers) {
+    if !registers_below(registers, extras.registers) {
         return false;
     }
-    let used_marks = used(marks, machine.cell_count);
-    if !marked_below(used_marks, used(numbers, machine.cell_count)) {
+    let used_marks = used(machine.cell_count, marks);
+    if !marked_below(used(machine.cell_count, numbers), used_marks) {
         return false;
     }
-    at_most(used_marks, 1)
+    at_most(1, used_marks)
 }

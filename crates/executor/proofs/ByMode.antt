@@ -9,15 +9,12 @@ use Rattle.rules.specs.declared.Marks.{Marks}
 use Rattle.rules.specs.declared.Ran.{Ran}
 use Rattle.rules.specs.Results.{Result}
 use Rattle.rules.specs.Answers.{Meaning}
-use Rattle.rules.specs.Entry.{Snapshot, GuardedSnapshot}
+use Rattle.rules.specs.Entry.{GuardedSnapshot}
 use Rattle.rules.specs.Calls.{Called, plainCall, guardedCall}
 use Rattle.rules.specs.Handed.{called, guardedCalled, noMarks}
+use Rattle.rules.specs.NonInterference.{withoutMarks}
 use Rattle.effects.specs.declared.Mode.{Mode}
-use Rattle.calling.specs.ModeCalls.{modeCall, Unmarked}
-
--- a call without its marks
-abbrev withoutMarks : Called GuardedSnapshot → Called Snapshot
-withoutMarks c = record { answer = c .answer; steps = c .steps; left = c .left .plain }
+use Rattle.calling.specs.ModeCalls.{modeCall, PlainHasNoMarks}
 
 -- f is what is handed in, by the extras
 module _ {mode : Mode} (program : Result (List Instruction)) (budget : ℕ) (f : Marks → GuardedSnapshot) where
@@ -52,5 +49,5 @@ true-false : _≡_ {A = Bool} true false → ⊥
 true-false e = let z : _≡_ {A = ℕ} 1 0 = cc in omega arith
 
 -- a guarded call may be handed any marks
-pub guarded-any : {mode : Mode} {extras : Marks} {ts : List ℕ} → mode ≡ record { guarded = true; extras = extras } → Unmarked mode ts
+pub guarded-any : {mode : Mode} {extras : Marks} {ts : List ℕ} → mode ≡ record { guarded = true; extras = extras } → PlainHasNoMarks mode ts
 guarded-any e g = let z : true ≡ false = sym (ap (λ (m : Mode). m .guarded) e) ∙ g in absurd (true-false z)

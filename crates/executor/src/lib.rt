@@ -11,7 +11,7 @@ ghost use Rattle.rules.specs.Solve.{solveStart, solve};
 ghost use Rattle.hexadecimal.specs.Writing.{Writes};
 
 // A buffer for the input of `solve`: one byte more than the longest text has, so that a longer one is seen.
-pub const INPUT_SIZE: usize = 65_537;
+pub const INPUT_SIZE: usize = program_text::TEXT_LIMIT + 1;
 
 // Where `solve` starts: all zero, nothing used, the PSP of a default memory.
 fn start() -> Machine

@@ -11,7 +11,7 @@ use borrow.Author.Tests.{lt-ltb, le-ltb, eqb-true, eq-eqb, ne-eqb}
 use Rattle.rules.specs.declared.Refusal.the-variants.{CellAbsent}
 use Rattle.rules.specs.Numbers.{choose}
 use Rattle.rules.specs.Results.{refuse, pass, bind}
-use Rattle.rules.specs.Memory.{Slot, absent, present}
+use Rattle.rules.specs.Memory.{Content, absent, present}
 use Rattle.rules.specs.Cells.{Cells, none, cell, get, count, addresses, contents, numberCells, markCells}
 use Rattle.rules.specs.PlainMap.{isPresent}
 use Rattle.rules.specs.Step.{readMany}
@@ -36,7 +36,7 @@ present-has (cell b w c) a = go (present-has c a) (eqb b a)
 pub absent-get : {A : Type 0} (c : Cells A) (a : ℕ) → has (addresses c) a ≡ false → get c a ≡ absent
 absent-get {A} c a e = go (get c a) (present-has c a ∙ e)
   where
-    go : (s : Slot A) → isPresent s ≡ false → s ≡ absent
+    go : (s : Content A) → isPresent s ≡ false → s ≡ absent
     go absent e = refl
     go (present v) e = absurd (false-true (sym e))
 

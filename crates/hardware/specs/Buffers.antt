@@ -6,7 +6,7 @@ use mathlib.Core.List.{List, [], _∷_}
 use lib.Dec.{ltb, eqb}
 use lib.ListN.{length, take}
 use Rattle.rules.specs.Numbers.{choose}
-use Rattle.rules.specs.Memory.{Slot, absent, present}
+use Rattle.rules.specs.Memory.{Content, absent, present}
 use Rattle.rules.specs.Cells as Cells
 use Rattle.rules.specs.Cells.{Cells, zipped, get, put, count, markCells}
 use Rattle.rules.specs.Step.{overlay}
@@ -59,13 +59,13 @@ missing l a (suc n) = choose (has l a) (missing l (suc a) n) (suc (missing l (su
 abbrev pub cellsOf : ℕ → List ℕ → List ℕ → Cells ℕ
 cellsOf n xs ns = zipped (take n xs) (take n ns)
 
-abbrev pub slotCell : Slot ℕ → Bool → Cell
-slotCell absent t = Cell.Absent
-slotCell (present v) t = Cell.Present v t
+abbrev pub contentCell : Content ℕ → Bool → Cell
+contentCell absent t = Cell.Absent
+contentCell (present v) t = Cell.Present v t
 
 -- a cell, and in a guarded run its mark
 abbrev pub cellOf : Bool → Cells ℕ → Cells ℕ → ℕ → Cell
-cellOf guarded c t a = slotCell (get c a) (guarded && cellMark markCells t a)
+cellOf guarded c t a = contentCell (get c a) (guarded && cellMark markCells t a)
 
 -- the cells with values from an address on
 abbrev pub putMany : Cells ℕ → ℕ → List ℕ → Cells ℕ

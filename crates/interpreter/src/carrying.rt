@@ -19,13 +19,13 @@ ghost use Rattle.hardware.specs.Buffers.{cellsOf, putMany, Ordered, Holding};
 ghost use Rattle.effects.specs.Effects.{meant, Placed};
 ghost use Rattle.effects.specs.Carrying.{part, callValues};
 ghost use Rattle.interpreter.specs.Cores.{coreOf};
-ghost use Rattle.interpreter.specs.Steps.{callAnswer, marksAfter, clkAfter, coreAfter, Carriable, CarriedOut};
+ghost use Rattle.interpreter.specs.Steps.{callAnswer, registerMarksAfter, clkAfter, coreAfter, Carriable, CarriedOut};
 
 // The registers' marks after one register was written; in a plain run they rest.
 fn marks_after(mode: Mode, register: usize, mark: bool) -> Marks
     requires { ⌜ mode .extras .registers < marksEnd ⌝ }
     requires { ⌜ register < 10 ⌝ }
-    ensures { λ r. ⌜ r ≡ marksAfter mode register mark ⌝ }
+    ensures { λ r. ⌜ r ≡ registerMarksAfter mode register mark ⌝ }
 {
     if mode.guarded {
         return Marks {

@@ -6,19 +6,19 @@ use native.Mathlib.Omega.{arith}
 use lib.ListN.{getD}
 use Rattle.rules.specs.Answers.{Meaning, outcome, refusal}
 use Rattle.rules.specs.Calls.{Called}
-use Rattle.rules.specs.MalformedFrames.{Numbered, Carried, CarriesEarliest}
+use Rattle.rules.specs.MalformedFrames.{Numbered, ToCarry, CarriesEarliest}
 use Rattle.rules.proofs.EntryRefusals.EarliestCarried.{calls-carry-earliest}
 use Rattle.records.specs.Records.{calleeOf, answerRecord}
 use Rattle.ola.specs.MalformedRecords.{ShowsEarliest, RecordsShowEarliest}
 
 module _ (f : Numbered) where
-  carries : (a : Meaning) (steps : ℕ) → ((values : List ℕ) → a ≡ refusal 2 values → (n : ℕ) × (values ≡ n ∷ []) × Carried f n)
-      → getD (answerRecord a steps) 0 0 ≡ 1 → getD (answerRecord a steps) 1 0 ≡ 2 → Carried f (getD (answerRecord a steps) 3 0)
+  carries : (a : Meaning) (steps : ℕ) → ((values : List ℕ) → a ≡ refusal 2 values → (n : ℕ) × (values ≡ n ∷ []) × ToCarry f n)
+      → getD (answerRecord a steps) 0 0 ≡ 1 → getD (answerRecord a steps) 1 0 ≡ 2 → ToCarry f (getD (answerRecord a steps) 3 0)
   unfolding answerRecord
   carries (outcome n vs) steps h e k = absurd (omega arith)
   carries (refusal n vs) steps h e k =
       let c = h vs (ap (λ (n : ℕ). refusal n vs) k) in
-      subst (Carried f) (sym (ap (λ (l : List ℕ). getD l 0 0) (c .1))) (c .2)
+      subst (ToCarry f) (sym (ap (λ (l : List ℕ). getD l 0 0) (c .1))) (c .2)
 
   module _ {S : Type 0} (s : S) (call : Called S) (h : CarriesEarliest f s call) where
     -- with the call's own steps, and of a check, with none

@@ -6,14 +6,14 @@ use lib.ListN.{getD}
 use Rattle.rules.specs.Text.{loadBudgetText}
 use Rattle.rules.specs.Entry.{Snapshot, GuardedSnapshot}
 use Rattle.rules.specs.Calls.{jobProgram, plainCall, plainWords, plainText, plainBudgetText, guardedCall, guardedWords, guardedText, guardedBudgetText}
-use Rattle.rules.specs.MalformedFrames.{Numbered, numberedWords, numberedText, numberedBudgetText, Carried}
+use Rattle.rules.specs.MalformedFrames.{Numbered, numberedWords, numberedText, numberedBudgetText, ToCarry}
 use Rattle.records.specs.Records.{answerRecord}
 use Rattle.ola.specs.Lent.{plainLeft, guardedLeft}
 
 -- words 0 and 1 say refusal 2 exactly where a number is to be carried; it is word 3, and the others are 0
 pub record ShowsEarliest (f : Numbered) (answer : List ℕ) : Type 0 where
-  pub carries : getD answer 0 0 ≡ 1 → getD answer 1 0 ≡ 2 → Carried f (getD answer 3 0)
-  pub refuses : (n : ℕ) → Carried f n → answer ≡ 1 ∷ 2 ∷ 0 ∷ n ∷ 0 ∷ 0 ∷ 0 ∷ 0 ∷ []
+  pub carries : getD answer 0 0 ≡ 1 → getD answer 1 0 ≡ 2 → ToCarry f (getD answer 3 0)
+  pub refuses : (n : ℕ) → ToCarry f n → answer ≡ 1 ∷ 2 ∷ 0 ∷ n ∷ 0 ∷ 0 ∷ 0 ∷ 0 ∷ []
 
 -- each exported function that can answer 2: the answer that its contract names
 pub record RecordsShowEarliest : Type 0 where

@@ -16,7 +16,7 @@ ghost use Rattle.hexadecimal.specs.Writing.{Writes};
 ghost use Rattle.report.specs.ReportLines.{reported};
 
 // The used part of the caller's output, as a part of it; all of it where the count is above its length.
-pub fn used_output(output: &[u64], count: usize) -> &[u64]
+pub fn used_output(count: usize, output: &[u64]) -> &[u64]
     ensures { λ r. ⌜ now r ≡ take count (now (output .entry)) ⌝ }
 {
     if count <= output.len() {
@@ -53,10 +53,10 @@ pub fn print(answer: Answer, steps: u64, machine: Machine, output: &[u64], buffe
 {
     let label = label::label_of(answer);
     if label::is_entry_refusal(label) {
-        return lines::put_lines(label, 0, 0, 0, used_output(output, 0), buffer);
+        return lines::put_lines(label, 0, 0, 0, used_output(0, output), buffer);
     }
     let pc = machine.pc;
     let clk = machine.clk;
     let count = machine.output_count;
-    lines::put_lines(label, steps, pc, clk, used_output(output, count), buffer)
+    lines::put_lines(label, steps, pc, clk, used_output(count, output), buffer)
 }

@@ -5,7 +5,7 @@ use mathlib.Core.List.{List, [], _∷_, _++_, map}
 use lib.ListN.{length, getD, set, replicate}
 use Rattle.rules.specs.declared.OlaOpcode.{OlaOpcode}
 use Rattle.rules.specs.Numbers.{defaultPsp, bit}
-use Rattle.rules.specs.Memory.{Slot, absent, present}
+use Rattle.rules.specs.Memory.{Content, absent, present}
 use Rattle.rules.specs.Cells as Cells
 use Rattle.rules.specs.Guarded.{registerMark}
 use Rattle.rules.specs.Answers.{Meaning, outcome, refusal}
@@ -75,8 +75,8 @@ abbrev pub fourCells : Start → Start
 fourCells s = withCell 0 5 (withCell 1 6 (withCell 2 7 (withCell 3 8 s)))
 
 -- what is handed in
-abbrev pub guardedSnapshot : Start → GuardedSnapshot
-guardedSnapshot s =
+abbrev pub guardedStartSnapshot : Start → GuardedSnapshot
+guardedStartSnapshot s =
     record {
       plain = record {
         machine = record {
@@ -98,8 +98,8 @@ guardedSnapshot s =
       extras = record { registers = s .marks };
     }
 
-abbrev pub snapshot : Start → Snapshot
-snapshot s = guardedSnapshot s .plain
+abbrev pub startSnapshot : Start → Snapshot
+startSnapshot s = guardedStartSnapshot s .plain
 
 -- A row
 
@@ -126,10 +126,10 @@ Hold rows = map (λ r. r .rules) rows ≡ map (λ r. r .paper) rows
 
 -- a plain or a guarded call of bare words: its budget, its words, its start
 abbrev pub plain : ℕ → List ℕ → Start → Called Snapshot
-plain budget words s = plainWords words budget (snapshot s)
+plain budget words s = plainWords words budget (startSnapshot s)
 
 abbrev pub guarded : ℕ → List ℕ → Start → Called GuardedSnapshot
-guarded budget words s = guardedWords words budget (guardedSnapshot s)
+guarded budget words s = guardedWords words budget (guardedStartSnapshot s)
 
 -- outcomes that carry nothing, and refusals but for 2
 abbrev pub e0 : Meaning
@@ -149,12 +149,12 @@ nothing s = []
 abbrev pub registerAt : ℕ → Snapshot → List ℕ
 registerAt r s = getD (s .machine .registers) r 0 ∷ []
 
-abbrev slotNumber : Slot ℕ → List ℕ
-slotNumber absent = []
-slotNumber (present n) = n ∷ []
+abbrev contentNumber : Content ℕ → List ℕ
+contentNumber absent = []
+contentNumber (present n) = n ∷ []
 
 abbrev pub cellAt : ℕ → Snapshot → List ℕ
-cellAt a s = slotNumber (Cells.get (stateOf s .cells) a)
+cellAt a s = contentNumber (Cells.get (stateOf s .cells) a)
 
 abbrev pub cellCount : Snapshot → List ℕ
 cellCount s = s .machine .«cell_count» ∷ []
@@ -167,7 +167,7 @@ abbrev pub markedRegisterAt : ℕ → GuardedSnapshot → List ℕ
 markedRegisterAt r g = registerAt r (g .plain) ++ (bit (registerMark (markedRegisters g) r) ∷ [])
 
 abbrev pub markedCellAt : ℕ → GuardedSnapshot → List ℕ
-markedCellAt a g = cellAt a (g .plain) ++ slotNumber (Cells.get (guardedStateOf g .marks .cells) a)
+markedCellAt a g = cellAt a (g .plain) ++ contentNumber (Cells.get (guardedStateOf g .marks .cells) a)
 
 -- Two refusals that meet
 

@@ -3,14 +3,14 @@ use Prim.Native.Nat.{ℕ, zero, suc, _≤_}
 use mathlib.Core.List.{List, [], _∷_}
 use lib.Dec.{ltb, eqb}
 use Rattle.rules.specs.Numbers.{choose}
-use Rattle.rules.specs.Memory.{Slot, absent, present, Memory}
+use Rattle.rules.specs.Memory.{Content, absent, present, Memory}
 
 pub data Cells (A : Type 0) : Type 0 where
   none : Cells A
   cell : ℕ → A → Cells A → Cells A
 
 module _ {A : Type 0} where
-  abbrev pub get : Cells A → ℕ → Slot A
+  abbrev pub get : Cells A → ℕ → Content A
   get none a = absent
   get (cell b w c) a = choose (eqb b a) (present w) (get c a)
 

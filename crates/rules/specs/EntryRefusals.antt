@@ -9,7 +9,7 @@ use Rattle.rules.specs.Answers.{Meaning, refusal}
 use Rattle.rules.specs.Entry.{Snapshot}
 use Rattle.rules.specs.Calls.{Called, plainWords, plainText, plainBudgetText, guardedWords}
 use Rattle.rules.specs.Encoding.{bytes}
-use Rattle.rules.specs.CaseRows.{start, snapshot, Row, row, Hold, plain, e0, e3, refusedBy, nothing}
+use Rattle.rules.specs.CaseRows.{start, startSnapshot, Row, row, Hold, plain, e0, e3, refusedBy, nothing}
 use Rattle.rules.specs.RefusalOrder.{endLines}
 
 abbrev malformed : ℕ → Meaning
@@ -73,10 +73,10 @@ wordRefusals =
 -- Texts
 
 abbrev text : List ℕ → Meaning
-text cs = plainText cs 1 (snapshot start) .answer
+text cs = plainText cs 1 (startSnapshot start) .answer
 
 abbrev budgetText : List ℕ → Meaning
-budgetText cs = plainBudgetText cs (snapshot start) .answer
+budgetText cs = plainBudgetText cs (startSnapshot start) .answer
 
 abbrev pub WordRefusalsHold : Type 0
 WordRefusalsHold =

@@ -73,7 +73,7 @@ OneAmongWords =
     (words : List ℕ) (r q : ℕ) → MalformedAt 1 (numberedWords words .malformed) r → MalformedAt 1 (numberedWords words .malformed) q → r ≡ q
 
 -- refusal 1 does not come before, and n is the earliest malformed frame
-pub record Carried (f : Numbered) (n : ℕ) : Type 0 where
+pub record ToCarry (f : Numbered) (n : ℕ) : Type 0 where
   pub inOrder : f .inOrder ≡ true
   pub earliest : Earliest (f .first) (f .malformed) n
 
@@ -82,8 +82,8 @@ pub record Carried (f : Numbered) (n : ℕ) : Type 0 where
 -- A call of a program, handed s, answers 2 exactly where some n is to be carried. It then carries n and nothing else, after no step, and
 -- leaves everything.
 pub record CarriesEarliest (f : Numbered) {S : Type 0} (s : S) (call : Called S) : Type 0 where
-  pub carries : (values : List ℕ) → call .answer ≡ refusal 2 values → (n : ℕ) × (values ≡ n ∷ []) × Carried f n
-  pub refuses : (n : ℕ) → Carried f n → call ≡ record { answer = refusal 2 (n ∷ []); steps = 0; left = s }
+  pub carries : (values : List ℕ) → call .answer ≡ refusal 2 values → (n : ℕ) × (values ≡ n ∷ []) × ToCarry f n
+  pub refuses : (n : ℕ) → ToCarry f n → call ≡ record { answer = refusal 2 (n ∷ []); steps = 0; left = s }
 
 -- Every call that can answer 2, plain and guarded: runs have any budget, a step has 1, a check 0. The check of a text with a budget line
 -- takes 0 in the place of the line's budget.
@@ -99,5 +99,5 @@ pub record CallsCarryEarliest : Type 0 where
   pub ofGuardedBudgetTextCheck : (text : List ℕ) (g : GuardedSnapshot)
       → CarriesEarliest (numberedBudgetText text) g (guardedCall (jobProgram (loadBudgetText text)) 0 g)
   -- `solve` prints 2, four zeros and the number
-  pub solvePrints : (text : List ℕ) (n : ℕ) → Carried (numberedBudgetText text) n
+  pub solvePrints : (text : List ℕ) (n : ℕ) → ToCarry (numberedBudgetText text) n
       → solve text ≡ decimal 2 ++ (zeroFields ++ (spaced n ++ (lineFeed ∷ [])))

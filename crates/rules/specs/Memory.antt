@@ -4,13 +4,13 @@ use lib.Dec.{ltb}
 use Rattle.rules.specs.Numbers.{stackEnd, heapEnd, p, choose}
 
 -- what stands at an address
-pub data Slot (A : Type 0) : Type 0 where
-  absent : Slot A
-  present : A → Slot A
+pub data Content (A : Type 0) : Type 0 where
+  absent : Content A
+  present : A → Content A
 
 pub record Memory (A : Type 0) : Type 1 where
   pub Mem : Type 0
-  pub get : Mem → ℕ → Slot A
+  pub get : Mem → ℕ → Content A
   pub put : Mem → ℕ → A → Mem
   pub count : Mem → ℕ
 

@@ -11,12 +11,12 @@ use Rattle.rules.specs.Numbers.{p}
 use Rattle.rules.specs.Results.{Result, pass}
 use Rattle.rules.specs.Cells.{numberCells, markCells, get, zipped}
 use Rattle.rules.specs.Step.{State}
-use Rattle.rules.specs.Guarded.{registerMark, slotMark}
+use Rattle.rules.specs.Guarded.{registerMark, contentMark}
 use Rattle.rules.specs.Answers.{outcome, refusal}
 use Rattle.rules.specs.Entry.{Snapshot, GuardedSnapshot, usedAddresses, usedNumbers, usedTape, usedOutput, usedMarks, markedRegisters, markedCells, marksEntry, guardedEntry, environment, stateOf}
 use Rattle.rules.specs.Calls.{Called, refusedCall}
 use Rattle.rules.specs.MarkRules.{register, cell, Marking}
-use Rattle.rules.specs.SinkRules.{ReachesUse, Comes}
+use Rattle.rules.specs.SinkRules.{ReachesSink, Comes}
 
 -- 'Marked': a register, or a used cell, whose mark is 1
 abbrev pub MarkedRegister : GuardedSnapshot → ℕ → Type 0
@@ -84,8 +84,8 @@ abbrev pub SinkAfter : ℕ → Called GuardedSnapshot → Type 0
 SinkAfter k c = MeetsSink c × (c .steps ≡ k)
 
 -- a call without its marks
-abbrev pub unmarked : Called GuardedSnapshot → Called Snapshot
-unmarked c = record { answer = c .answer; steps = c .steps; left = c .left .plain }
+abbrev pub withoutMarks : Called GuardedSnapshot → Called Snapshot
+withoutMarks c = record { answer = c .answer; steps = c .steps; left = c .left .plain }
 
 -- e3 after k steps
 abbrev pub pausedAfter : ℕ → Snapshot → Called Snapshot
@@ -94,14 +94,14 @@ pausedAfter k s = record { answer = outcome 3 []; steps = k; left = s }
 -- the marks that a snapshot starts with
 abbrev pub startMarks : GuardedSnapshot → Marking
 startMarks g (register r) = registerMark (markedRegisters g) r
-startMarks g (cell a) = slotMark markCells (get (zipped (usedAddresses (g .plain)) (usedMarks g)) a)
+startMarks g (cell a) = contentMark markCells (get (zipped (usedAddresses (g .plain)) (usedMarks g)) a)
 
--- 'Reaches a listed use': the call passes entry, comes to a state after k steps, and the next step reaches a use
+-- 'Reaches a listed use': the call passes entry, comes to a state after k steps, and the next step reaches a sink
 pub data Reaches : Result (List Instruction) → GuardedSnapshot → ℕ → Type 0 where
   reaches : {program : List Instruction} {g : GuardedSnapshot} {k : ℕ} {s : State numberCells} {t : Marking}
       → guardedEntry g ≡ true
       → Comes (environment program (g .plain)) (stateOf (g .plain)) (startMarks g) k s t
-      → ReachesUse (environment program (g .plain)) s t
+      → ReachesSink (environment program (g .plain)) s t
       → Reaches (pass program) g k
 
 -- Of a program as loaded, with a budget: the guarded call beside itself and beside the plain call
@@ -115,14 +115,14 @@ pub record NonInterference
   pub agrees : (g h : GuardedSnapshot) → Alike g h → MarkedBelow g → MarkedBelow h → SameCalls (guarded g) (guarded h)
   -- one that does not meet 18 is the plain call
   pub transparent : (g : GuardedSnapshot) → marksEntry g ≡ true → (MeetsSink (guarded g) → ⊥)
-      → unmarked (guarded g) ≡ plain budget (g .plain)
+      → withoutMarks (guarded g) ≡ plain budget (g .plain)
   -- one whose marks an entry refuses is refused 3 and leaves everything, unless the program is refused
   pub unfit : (g : GuardedSnapshot) → marksEntry g ≡ false → {instructions : List Instruction} → program ≡ pass instructions
       → guarded g ≡ refusedCall BadState g
   -- one that meets 18 after k steps, which is below the budget, leaves what the plain call with budget k leaves: that is e3 after k steps
   pub stopsEarly : (g : GuardedSnapshot) (k : ℕ) → SinkAfter k (guarded g)
       → (k < budget) × (plain k (g .plain) ≡ pausedAfter k (guarded g .left .plain))
-  -- 18 after k steps exactly where the step after k steps reaches a listed use
+  -- 18 after k steps exactly where the step after k steps reaches a sink
   pub exact : (g : GuardedSnapshot) (k : ℕ) → SinkAfter k (guarded g) ↔ ((k < budget) × Reaches program g k)
   -- a start with no marks never meets 18
   pub clean : (g : GuardedSnapshot) → Unmarked g → MeetsSink (guarded g) → ⊥

@@ -3,13 +3,13 @@ use Prim.Native.Nat.{ℕ, suc}
 use mathlib.Core.Bool.{Bool, true, false}
 use lib.Dec.{eqb}
 use Rattle.rules.specs.Numbers.{choose}
-use Rattle.rules.specs.Memory.{Slot, absent, present, Memory}
+use Rattle.rules.specs.Memory.{Content, absent, present, Memory}
 
 pub record PlainMap (A : Type 0) : Type 0 where
-  pub at : ℕ → Slot A
+  pub at : ℕ → Content A
   pub size : ℕ
 
-abbrev pub isPresent : {A : Type 0} → Slot A → Bool
+abbrev pub isPresent : {A : Type 0} → Content A → Bool
 isPresent absent = false
 isPresent (present v) = true
 

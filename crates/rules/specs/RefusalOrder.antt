@@ -13,7 +13,7 @@ use Rattle.rules.specs.Answers.{Meaning, refusal}
 use Rattle.rules.specs.Entry.{Snapshot}
 use Rattle.rules.specs.Calls.{Called, plainText, plainBudgetText}
 use Rattle.rules.specs.Encoding.{frame, imm, absent6, offset7, bytes}
-use Rattle.rules.specs.CaseRows.{Start, start, withMarkedR, withClk, fourCells, full, snapshot, Hold, plain, guarded, e3, refusedBy, Pair, pair, pairOf, inStep, rowsOf, forEach}
+use Rattle.rules.specs.CaseRows.{Start, start, withMarkedR, withClk, fourCells, full, startSnapshot, Hold, plain, guarded, e3, refusedBy, Pair, pair, pairOf, inStep, rowsOf, forEach}
 
 -- one step
 abbrev once : List ℕ → Start → Called Snapshot
@@ -46,10 +46,10 @@ abbrev badMark : Start
 badMark = withMarkedR 10 0 start
 
 abbrev text : List ℕ → Called Snapshot
-text cs = plainText cs 1 (snapshot start)
+text cs = plainText cs 1 (startSnapshot start)
 
 abbrev budgetText : List ℕ → Called Snapshot
-budgetText cs = plainBudgetText cs (snapshot start)
+budgetText cs = plainBudgetText cs (startSnapshot start)
 
 abbrev malformed : ℕ → Meaning
 malformed n = refusal 2 (n ∷ [])

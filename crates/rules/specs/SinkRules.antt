@@ -1,4 +1,4 @@
--- Document 01's list of uses, item by item, and what it is for a step to reach one.
+-- The sinks: document 01's listed uses, item by item, and what it is for a step to reach one.
 use Prim.Native.Nat.{ℕ, suc, _+_, _-_, _≤_, _<_}
 use mathlib.Core.Path.{_≡_}
 use mathlib.Core.Bool.{true}
@@ -47,48 +47,48 @@ module _ (t : Marking) (i : Instruction) where
   abbrev Op1 : Type 0
   Op1 = OperandMarked t (i .op1) true
 
-  -- the uses that come right after the operands
-  pub data OperandUse : OlaOpcode → Type 0 where
-    address-op0 : {c : OlaOpcode} → Addressing c → Op0 → OperandUse c
-    address-op1 : {c : OlaOpcode} → Addressing c → Op1 → OperandUse c
-    small-op0 : {c : OlaOpcode} → SmallOperands c → Op0 → OperandUse c
-    small-op1 : {c : OlaOpcode} → SmallOperands c → Op1 → OperandUse c
-    op1 : {c : OlaOpcode} → UsesOp1 c → Op1 → OperandUse c
+  -- those that come right after the operands
+  pub data OperandSink : OlaOpcode → Type 0 where
+    address-op0 : {c : OlaOpcode} → Addressing c → Op0 → OperandSink c
+    address-op1 : {c : OlaOpcode} → Addressing c → Op1 → OperandSink c
+    small-op0 : {c : OlaOpcode} → SmallOperands c → Op0 → OperandSink c
+    small-op1 : {c : OlaOpcode} → SmallOperands c → Op1 → OperandSink c
+    op1 : {c : OlaOpcode} → UsesOp1 c → Op1 → OperandSink c
     -- just before its test
-    cjmp-op0 : Op0 → OperandUse O.Cjmp
-    r9-itself : {c : OlaOpcode} → UsesR9 c → t (register 9) ≡ true → OperandUse c
+    cjmp-op0 : Op0 → OperandSink O.Cjmp
+    r9-itself : {c : OlaOpcode} → UsesR9 c → t (register 9) ≡ true → OperandSink c
     -- all operands that TLOAD, TSTORE and SCCALL read
-    tape-op0 : {c : OlaOpcode} → UsesTape c → Op0 → OperandUse c
-    tape-op1 : {c : OlaOpcode} → UsesTape c → Op1 → OperandUse c
-    tload-dst : OperandMarked t (i .dst) true → OperandUse O.Tload
+    tape-op0 : {c : OlaOpcode} → UsesTape c → Op0 → OperandSink c
+    tape-op1 : {c : OlaOpcode} → UsesTape c → Op1 → OperandSink c
+    tload-dst : OperandMarked t (i .dst) true → OperandSink O.Tload
 
-  -- the uses that come later: CJMP's op1 after the test and its evaluation; cells and RET's pc after all reads are found
-  pub data ReadUse (e : Environment) (s : State numberCells) (o : Operands) : OlaOpcode → Type 0 where
-    cjmp-op1 : {v : ℕ} → o .op0 ≤ 1 → valueOf (e .psp) (s .registers) (i .op1) ≡ pass v → Op1 → ReadUse e s o O.Cjmp
+  -- those that come later: CJMP's op1 after the test and its evaluation; cells and RET's pc after all reads are found
+  pub data ReadSink (e : Environment) (s : State numberCells) (o : Operands) : OlaOpcode → Type 0 where
+    cjmp-op1 : {v : ℕ} → o .op0 ≤ 1 → valueOf (e .psp) (s .registers) (i .op1) ≡ pass v → Op1 → ReadSink e s o O.Cjmp
     tstore-cell : {vs : List ℕ} → readSpan numberCells (s .cells) (o .op0) (o .op1) ≡ pass vs
-        → (a : ℕ) → o .op0 ≤ a → a < o .op0 + o .op1 → t (cell a) ≡ true → ReadUse e s o O.Tstore
+        → (a : ℕ) → o .op0 ≤ a → a < o .op0 + o .op1 → t (cell a) ≡ true → ReadSink e s o O.Tstore
     sccall-cell : {vs : List ℕ} → readSpan numberCells (s .cells) (o .op0) 4 ≡ pass vs
-        → (a : ℕ) → o .op0 ≤ a → a < o .op0 + 4 → t (cell a) ≡ true → ReadUse e s o O.Sccall
+        → (a : ℕ) → o .op0 ≤ a → a < o .op0 + 4 → t (cell a) ≡ true → ReadSink e s o O.Sccall
     ret-pc : {v w : ℕ} → readBelow numberCells (s .cells) (r9 numberCells s) 1 ≡ pass v → readBelow numberCells (s .cells) (r9 numberCells s) 2 ≡ pass w
-        → t (cell (r9 numberCells s - 1)) ≡ true → ReadUse e s o O.Ret
+        → t (cell (r9 numberCells s - 1)) ≡ true → ReadSink e s o O.Ret
 
 -- the step of an instruction, as fetched and with its operands as read
 pub record InstructionRead (e : Environment) (s : State numberCells) (i : Instruction) (o : Operands) : Type 0 where
   pub fetched : fetch (e .program) (s .pc) ≡ pass i
   pub read : operands (e .psp) (s .registers) (classOf (i .opcode)) i ≡ pass o
 
--- the step from a state reaches a listed use: nothing before the use refuses it
-pub data ReachesUse (e : Environment) (s : State numberCells) (t : Marking) : Type 0 where
-  operand : {i : Instruction} {o : Operands} → InstructionRead e s i o → OperandUse t i (i .opcode) → ReachesUse e s t
-  reading : {i : Instruction} {o : Operands} → InstructionRead e s i o → (OperandUse t i (i .opcode) → ⊥)
-      → ReadUse t i e s o (i .opcode) → ReachesUse e s t
+-- the step from a state reaches a sink: nothing before it refuses the step
+pub data ReachesSink (e : Environment) (s : State numberCells) (t : Marking) : Type 0 where
+  operand : {i : Instruction} {o : Operands} → InstructionRead e s i o → OperandSink t i (i .opcode) → ReachesSink e s t
+  reading : {i : Instruction} {o : Operands} → InstructionRead e s i o → (OperandSink t i (i .opcode) → ⊥)
+      → ReadSink t i e s o (i .opcode) → ReachesSink e s t
 
--- an accepted step that lets the run go on: the plain step, at no listed use, with the marks that the rules give
+-- an accepted step that lets the run go on: the plain step, at no sink, with the marks that the rules give
 pub record AcceptedStep (e : Environment) (s : State numberCells) (t : Marking) (s′ : State numberCells) (t′ : Marking) : Type 0 where
   pub instruction : Instruction
   pub operands : Operands
   pub fetched : InstructionRead e s instruction operands
-  pub unused : ReachesUse e s t → ⊥
+  pub noSink : ReachesSink e s t → ⊥
   pub next : step numberCells e s ≡ pass (record { state = s′; finish = goesOn })
   pub clock : s′ .clk < clockEnd
   pub marks : (x : Place) → MarkedAfter t instruction s operands (instruction .opcode) x (t′ x)

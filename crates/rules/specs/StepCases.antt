@@ -12,7 +12,7 @@ use Rattle.rules.specs.Entry.{Snapshot, GuardedSnapshot, usedTape, usedO
 use Rattle.rules.specs.Calls.{plainBudgetText}
 use Rattle.rules.specs.Solve.{solve, printed}
 use Rattle.rules.specs.Encoding.{frame, imm, bytes}
-use Rattle.rules.specs.CaseRows.{Start, start, withR, withMarkedR, withCell, withMarkedCell, withTape, withClk, fourCells, snapshot, Row, row, Hold, plain, guarded, e0, e3, registerAt, cellAt, clkOf, markedRegisterAt, markedCellAt}
+use Rattle.rules.specs.CaseRows.{Start, start, withR, withMarkedR, withCell, withMarkedCell, withTape, withClk, fourCells, startSnapshot, Row, row, Hold, plain, guarded, e0, e3, registerAt, cellAt, clkOf, markedRegisterAt, markedCellAt}
 use Rattle.rules.specs.RefusalOrder.{endLines}
 
 abbrev r0 : OlaOperand
@@ -154,7 +154,7 @@ PrintsHold =
     × (solve (bytes "0000000000000001\nx\n") ≡ bytes "2 0 0 0 0 1\n")
     -- the frame in shortest hexadecimal
     × (solve (bytes "0000000000000001\n" ++ (endLines 15 ++ bytes "x\n")) ≡ bytes "2 0 0 0 0 10\n")
-    × (printed (plainBudgetText (bytes "0000000000000001\n000000000000000b\n") (snapshot (withClk 1000000000000 start))) ≡ bytes "3 0 0 0 0\n")
+    × (printed (plainBudgetText (bytes "0000000000000001\n000000000000000b\n") (startSnapshot (withClk 1000000000000 start))) ≡ bytes "3 0 0 0 0\n")
     -- a step's refusal: steps, pc, clk, kilosteps, and the output so far
     × (solve listingWithoutEnd ≡ bytes "4 4 7 4 0\na\n")
     × (solve (bytes "0000000000000001\n000000000000080c0000000100000000\n") ≡ bytes "10 0 0 0 0\n")

@@ -10,7 +10,7 @@ use Rattle.rules.specs.Answers.{Meaning, outcome, refusal}
 use Rattle.rules.specs.Entry.{GuardedSnapshot}
 use Rattle.rules.specs.Calls.{guardedWords}
 use Rattle.rules.specs.Encoding.{frame}
-use Rattle.rules.specs.CaseRows.{start, withR, withMarkedR, withCell, guardedSnapshot, markedRegisterAt, markedCellAt}
+use Rattle.rules.specs.CaseRows.{start, withR, withMarkedR, withCell, guardedStartSnapshot, markedRegisterAt, markedCellAt}
 use Rattle.rules.specs.NonInterference.{MarkedBelow, Alike, SameCalls}
 
 -- two starts of one program that differ and are alike, each marked number below p; the answers and steps of their calls, which are the same
@@ -24,7 +24,7 @@ pub record Witness (words : List ℕ) (budget : ℕ) (g h : GuardedSnapshot) (an
 
 -- R1 is marked and holds n; R9 is 5, and cell 4 holds 5, the pc of END below
 unfoldable pub secret : ℕ → GuardedSnapshot
-secret n = guardedSnapshot (withR 9 5 (withCell 4 5 (withMarkedR 1 n start)))
+secret n = guardedStartSnapshot (withR 9 5 (withCell 4 5 (withMarkedR 1 n start)))
 
 -- the mark goes from R1 through MSTORE to cell 3, through MLOAD to R2, and through RET to R9; then END
 unfoldable pub carries : List ℕ
@@ -39,13 +39,13 @@ unfoldable pub leaks : List ℕ
 leaks = frame O.Eq (Register 1) (Register 1) (Register 0) ++ frame O.Cjmp (Register 0) (Immediate 0) Absent
 
 -- after `carries`: R2, R9 and cell 3, each with its mark
-abbrev pub carried : GuardedSnapshot → List ℕ
-carried g = markedRegisterAt 2 g ++ (markedRegisterAt 9 g ++ markedCellAt 3 g)
+abbrev pub marksCarried : GuardedSnapshot → List ℕ
+marksCarried g = markedRegisterAt 2 g ++ (markedRegisterAt 9 g ++ markedCellAt 3 g)
 
-pub record Carried : Type 0 where
+pub record MarksCarried : Type 0 where
   pub ends : Witness carries 10 (secret 7) (secret 8) (outcome 0 []) 4
-  pub seven : carried (guardedWords carries 10 (secret 7) .left) ≡ 7 ∷ 1 ∷ 7 ∷ 1 ∷ 7 ∷ 1 ∷ []
-  pub eight : carried (guardedWords carries 10 (secret 8) .left) ≡ 8 ∷ 1 ∷ 8 ∷ 1 ∷ 8 ∷ 1 ∷ []
+  pub seven : marksCarried (guardedWords carries 10 (secret 7) .left) ≡ 7 ∷ 1 ∷ 7 ∷ 1 ∷ 7 ∷ 1 ∷ []
+  pub eight : marksCarried (guardedWords carries 10 (secret 8) .left) ≡ 8 ∷ 1 ∷ 8 ∷ 1 ∷ 8 ∷ 1 ∷ []
 
 -- nothing is used but R1, and n stands everywhere beyond the counts
 unfoldable pub beyond : ℕ → GuardedSnapshot
@@ -82,6 +82,6 @@ pub record Beyond : Type 0 where
   pub marks : guardedWords stores 1 (beyond 3) .left .marks ≡ 1 ∷ 3 ∷ []
 
 pub record Witnesses : Type 0 where
-  pub carried : Carried
+  pub carried : MarksCarried
   pub leaked : Witness leaks 2 (secret 7) (secret 8) (refusal 18 []) 1
   pub beyond : Beyond

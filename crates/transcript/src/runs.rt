@@ -1,7 +1,7 @@
 // The runs of a case: step after step, and again in one call.
 use crate::show::print;
 use crate::show::show;
-use case_calls::Entry;
+use case_calls::Form;
 use case_calls::Run;
 use case_calls::call;
 use case_fields::numbers::read_numbers;
@@ -15,42 +15,42 @@ pub(crate) fn play_case(run: Run, line: &[u8], text: &[u8], fields: &mut Fields)
         return false;
     }
     let mut shown = *fields;
-    let entry = entry_of(fields);
-    play_steps(run, entry, text, fields, &mut shown);
+    let form = form_of(fields);
+    play_steps(run, form, text, fields, &mut shown);
     print(b"run ");
-    play_calls(run, entry, 1, text, fields, &mut shown);
+    play_calls(run, form, 1, text, fields, &mut shown);
     true
 }
 
 // The function that takes what the case gives.
-fn entry_of(fields: &Fields) -> Entry {
+fn form_of(fields: &Fields) -> Form {
     if fields[parts::BUDGET] == 0 {
-        return Entry::BudgetText;
+        return Form::BudgetText;
     }
     let budget = fields[parts::BUDGET + 1];
     if fields[parts::WORDS] == parts::UNUSED {
-        return Entry::Text(budget);
+        return Form::Text(budget);
     }
-    Entry::Words(budget)
+    Form::Words(budget)
 }
 
 // Runs the case step after step, unless its text has the budget.
-fn play_steps(run: Run, entry: Entry, text: &[u8], start: &Fields, shown: &mut Fields) {
-    match entry {
-        Entry::Words(budget) => play_calls(run, Entry::Step, budget, text, start, shown),
-        Entry::Text(budget) => play_calls(run, Entry::Text(1), budget, text, start, shown),
+fn play_steps(run: Run, form: Form, text: &[u8], start: &Fields, shown: &mut Fields) {
+    match form {
+        Form::Words(budget) => play_calls(run, Form::Step, budget, text, start, shown),
+        Form::Text(budget) => play_calls(run, Form::Text(1), budget, text, start, shown),
         _ => {}
     }
 }
 
 // Calls from the start, then from what that call left, and so on while the program goes on, so many times at most, and shows what each
 // call did.
-fn play_calls(run: Run, entry: Entry, most: u64, text: &[u8], start: &Fields, shown: &mut Fields) {
+fn play_calls(run: Run, form: Form, most: u64, text: &[u8], start: &Fields, shown: &mut Fields) {
     let mut fields = *start;
     let mut next = *start;
     let mut left = most;
     while 0 < left {
-        let ran = call(run, entry, text, &fields, &mut next);
+        let ran = call(run, form, text, &fields, &mut next);
         show(ran, &next, shown);
         let answer = ran.answer;
         if !is_paused(answer) {

@@ -45,7 +45,7 @@ fn show_answer(ran: Ran) {
     let none = [0u64; 1];
     let mut line = [0u8; LINE_SIZE];
     if let Put::Next(end) = report::print(answer, ran.steps, machine, &none[..0], &mut line) {
-        print(first_bytes(&line, end));
+        print(first_bytes(end, &line));
     }
 }
 

@@ -20,7 +20,7 @@ use Rattle.rules.specs.Cells.{numberCells, markCells}
 use Rattle.rules.specs.Entry.{Snapshot, GuardedSnapshot, plainEntry, guardedEntry, environment, stateOf, guardedStateOf}
 use Rattle.rules.specs.Calls.{Called, refusedCall, jobProgram, jobBudget, plainCall, plainWords, plainText, plainBudgetText, guardedCall, guardedWords, guardedText, guardedBudgetText}
 use Rattle.rules.specs.Solve.{decimal, zeroFields, spaced, carriedFields, printed, solveStart, solve}
-use Rattle.rules.specs.MalformedFrames.{MalformedAt, here, further, Earliest, this, later, EarliestIsLeast, Numbered, numberedWords, OneAmongWords, numberedText, jobFrames, malformedJob, numberedBudgetText, Carried, CarriesEarliest, CallsCarryEarliest}
+use Rattle.rules.specs.MalformedFrames.{MalformedAt, here, further, Earliest, this, later, EarliestIsLeast, Numbered, numberedWords, OneAmongWords, numberedText, jobFrames, malformedJob, numberedBudgetText, ToCarry, CarriesEarliest, CallsCarryEarliest}
 use Rattle.rules.proofs.Laws.BoolLaws.{false-true}
 use Rattle.rules.proofs.Laws.ResultLaws.{refuse-pass}
 use Rattle.rules.proofs.Laws.AnswerLaws.{malformed-refusal}
@@ -90,8 +90,8 @@ one-among-words words r q a b = one-of-frames 1 0 words a b
 -- Loading: a program is refused 2 exactly where a number is to be carried
 
 pub record LoadsEarliest (f : Numbered) {A : Type 0} (loaded : Result A) : Type 0 where
-  pub carries : (n : ℕ) → loaded ≡ refuse (MalformedFrame n) → Carried f n
-  pub refuses : (n : ℕ) → Carried f n → loaded ≡ refuse (MalformedFrame n)
+  pub carries : (n : ℕ) → loaded ≡ refuse (MalformedFrame n) → ToCarry f n
+  pub refuses : (n : ℕ) → ToCarry f n → loaded ≡ refuse (MalformedFrame n)
 
 length-is-not : {A X : Type 0} {n : ℕ} → _≡_ {A = Result A} (refuse BadLength) (refuse (MalformedFrame n)) → X
 length-is-not h = absurd (let z : _≡_ {A = ℕ} 0 1 = cc in omega arith)
@@ -113,7 +113,7 @@ tests {A} true first bs a =
     }
   where
     go : (n : ℕ) (b : Bool) → anyOf bs ≡ b → require (not b) (MalformedFrame (earliestMalformed first bs)) (pass a) ≡ refuse (MalformedFrame n)
-        → Carried (record { inOrder = true; first = first; malformed = bs }) n
+        → ToCarry (record { inOrder = true; first = first; malformed = bs }) n
     go n true s e =
         let z : earliestMalformed first bs ≡ n = cc in
         record { inOrder = refl; earliest = rw (sym z) (defined first bs s) }
@@ -196,7 +196,7 @@ budget-text-carries : (text : List ℕ) (s : Snapshot) → CarriesEarliest (numb
 unfolding plainBudgetText
 budget-text-carries text s = plain-carries _ _ (budget-text-earliest text) (jobBudget (loadBudgetText text)) s
 
-solve-prints : (text : List ℕ) (n : ℕ) → Carried (numberedBudgetText text) n → solve text ≡ decimal 2 ++ (zeroFields ++ (spaced n ++ (lineFeed ∷ [])))
+solve-prints : (text : List ℕ) (n : ℕ) → ToCarry (numberedBudgetText text) n → solve text ≡ decimal 2 ++ (zeroFields ++ (spaced n ++ (lineFeed ∷ [])))
 unfolding solve printed carriedFields
 solve-prints text n k =
     ap printed (budget-text-carries text solveStart .refuses n k)

@@ -13,10 +13,10 @@ use Rattle.rules.specs.declared.Answer.{Answer}
 use Rattle.rules.specs.Numbers.{clockEnd}
 use Rattle.rules.specs.Results.{Result, GuardedResult}
 use Rattle.rules.specs.Field.{fieldAdd, fieldMul}
-use Rattle.rules.specs.Memory.{Slot, absent, present, Memory}
+use Rattle.rules.specs.Memory.{Content, absent, present, Memory}
 use Rattle.rules.specs.Opcodes.{Class, addition, multiplication, equality, small, complement, move, assert, rangeCheck, jump, conditionalJump, call, return, load, store, tapeLoad, tapeStore, contractCall, end, uncovered}
 use Rattle.rules.specs.Operands.{binaryLength, instructionAt, fetch, Want, ignored, lacking, value, later, register, target, inField, valueOf, targetOf, absence, operand, Operands, operands}
-use Rattle.rules.specs.Step.{Environment, State, Next, Finish, goesOn, ends, calls, delegates, Ran, onClock, onFinish, r9, slotValue, read, readBelow, readMany, readSpan, storeMany, operate, capacity, step, onStep, run}
+use Rattle.rules.specs.Step.{Environment, State, Next, Finish, goesOn, ends, calls, delegates, Ran, onClock, onFinish, r9, contentValue, read, readBelow, readMany, readSpan, storeMany, operate, capacity, step, onStep, run}
 use Rattle.rules.specs.Guarded.{MarkState, GuardedState, GuardedNext, guardedRest, guardedStep, onGuardedStep, guardedRun}
 use Rattle.rules.specs.Answers.{Meaning, outcome, refusal, refusalMeaning, meaning}
 use Rattle.rules.proofs.EntryRefusals.Refusing.{Refusing, refusing-refused, passed, RefusingGuarded, refused-guarded, sink-guarded, passed-guarded, refusing-require, refusing-choose, refusing-bind, refusing-after, refusing-guard}
@@ -101,13 +101,13 @@ module _ (numberMemory markMemory : Memory ℕ) where
 
   -- Reading and storing
 
-  slot-read : (s : Slot ℕ) → Refusing AtStep (slotValue numberMemory s)
+  content-read : (s : Content ℕ) → Refusing AtStep (contentValue numberMemory s)
   unfolding refusalMeaning
-  slot-read absent = refusing-refused refl
-  slot-read (present v) = passed
+  content-read absent = refusing-refused refl
+  content-read (present v) = passed
 
   cell-read : (c : Mem) (a : ℕ) → Refusing AtStep (read numberMemory c a)
-  cell-read c a = slot-read (get c a)
+  cell-read c a = content-read (get c a)
 
   below-read : (c : Mem) (r k : ℕ) → Refusing AtStep (readBelow numberMemory c r k)
   unfolding refusalMeaning

@@ -9,7 +9,7 @@ use Rattle.rules.specs.PlainMap.{PlainMap, numberMap, markMap}
 use Rattle.rules.specs.Opcodes.{Class, addition, multiplication, equality, small, complement, move, assert, rangeCheck, jump, conditionalJump, call, return, load, store, tapeLoad, tapeStore, contractCall, end, uncovered, classOf}
 use Rattle.rules.specs.Operands.{Operands}
 use Rattle.rules.specs.Step.{Environment, State, r9, Ran}
-use Rattle.rules.specs.Guarded.{MarkState, slotMark, cellMark, spanMark, readSink, cleanMany, marksAfter, GuardedState, GuardedNext, guardedRest, guardedStep, onGuardedStep, guardedRun}
+use Rattle.rules.specs.Guarded.{MarkState, contentMark, cellMark, spanMark, readSink, cleanMany, marksAfter, GuardedState, GuardedNext, guardedRest, guardedStep, onGuardedStep, guardedRun}
 use Rattle.rules.specs.Relations.{BothGuarded, refused-alike, sink-alike, passed-alike, BothRan}
 use Rattle.rules.specs.MapAgreement.{withMap, mapGuardedState, SameMemory, SameMarks, SameGuardedState, SameGuardedNext, GuardedRising, MapAgreement}
 use Rattle.rules.proofs.Laws.Relational.{both-after, both-after-equal, both-guard, both-finish}
@@ -18,7 +18,7 @@ use Rattle.rules.proofs.MapAgreement.PlainMapAgreement.{same-map, same-
 -- Marks of cells
 
 same-mark : {c : Cells ℕ} {m : PlainMap ℕ} → SameMemory c m → (a : ℕ) → cellMark markCells c a ≡ cellMark markMap m a
-same-mark h a = ap (slotMark markCells) (h .same a)
+same-mark h a = ap (contentMark markCells) (h .same a)
 
 same-span-mark : {c : Cells ℕ} {m : PlainMap ℕ} → SameMemory c m → (a n : ℕ) → spanMark markCells c a n ≡ spanMark markMap m a n
 unfolding spanMark

@@ -12,7 +12,7 @@ use Rattle.rules.specs.Cells.{Cells, put, Rising, numberCells}
 use Rattle.rules.specs.PlainMap.{PlainMap, mapPut, numberMap}
 use Rattle.rules.specs.Opcodes.{Class, addition, multiplication, equality, small, complement, move, assert, rangeCheck, jump, conditionalJump, call, return, load, store, tapeLoad, tapeStore, contractCall, end, uncovered, classOf}
 use Rattle.rules.specs.Operands.{Operands}
-use Rattle.rules.specs.Step.{Environment, State, Next, slotValue, r9, read, readBelow, readMany, readSpan, storeMany, operate, fits, capacity, step, Ran, onStep, run}
+use Rattle.rules.specs.Step.{Environment, State, Next, contentValue, r9, read, readBelow, readMany, readSpan, storeMany, operate, fits, capacity, step, Ran, onStep, run}
 use Rattle.rules.specs.Relations.{Both, both-refused, passed, BothRan}
 use Rattle.rules.specs.MapAgreement.{mapOf, withMap, SameMemory, SameState, SameNext}
 use Rattle.rules.proofs.Laws.CellLaws.{get-put, rising-put, count-put}
@@ -32,7 +32,7 @@ same-put {c} {m} h a v =
     }
 
 same-read : {c : Cells ℕ} {m : PlainMap ℕ} → SameMemory c m → (a : ℕ) → read numberCells c a ≡ read numberMap m a
-same-read h a = ap (slotValue numberCells) (h .same a)
+same-read h a = ap (contentValue numberCells) (h .same a)
 
 same-below : {c : Cells ℕ} {m : PlainMap ℕ} → SameMemory c m → (r k : ℕ) → readBelow numberCells c r k ≡ readBelow numberMap m r k
 same-below h r k = ap (require (leb k r) CellAbsent) (same-read h (r - k))

@@ -1,4 +1,4 @@
--- A guarded step stops at a sink exactly where it reaches a listed use.
+-- A guarded step stops for a mark exactly where it reaches a sink, by the rules.
 use Prim.Native.Nat.{ℕ, zero, suc, _+_, _<_, _≤_}
 use mathlib.Core.Path.{_≡_, refl, sym, subst, _∙_}
 use mathlib.Core.Bool.{Bool, true, false, _||_}
@@ -33,7 +33,7 @@ use Rattle.rules.specs.SinkRules.{
   tload,
   tstore,
   sccall,
-  OperandUse,
+  OperandSink,
   address-op0,
   address-op1,
   small-op0,
@@ -44,13 +44,13 @@ use Rattle.rules.specs.SinkRules.{
   tape-op0,
   tape-op1,
   tload-dst,
-  ReadUse,
+  ReadSink,
   cjmp-op1,
   tstore-cell,
   sccall-cell,
   ret-pc,
   InstructionRead,
-  ReachesUse,
+  ReachesSink,
   operand,
   reading,
 }
@@ -87,67 +87,67 @@ module _ (t : MarkState markCells) (i : Instruction) where
   is1 : mark1 ≡ true → OperandMarked (markingOf t) (i .op1) true
   is1 h = marked-operand t (i .op1) h
 
-  use-sink : {c : OlaOpcode} → OperandUse (markingOf t) i c → operandSink (t .registers) (classOf c) i ≡ true
+  rule-computed : {c : OlaOpcode} → OperandSink (markingOf t) i c → operandSink (t .registers) (classOf c) i ≡ true
   unfolding operandSink sinksOf classOf
-  use-sink (address-op0 mload h) = or-first _ (operand-mark t h)
-  use-sink (address-op0 mstore h) = or-first _ (operand-mark t h)
-  use-sink (address-op1 mload h) = or-second mark0 (or-first _ (operand-mark t h))
-  use-sink (address-op1 mstore h) = or-second mark0 (or-first _ (operand-mark t h))
-  use-sink (small-op0 and h) = or-first _ (operand-mark t h)
-  use-sink (small-op0 or h) = or-first _ (operand-mark t h)
-  use-sink (small-op0 xor h) = or-first _ (operand-mark t h)
-  use-sink (small-op0 gte h) = or-first _ (operand-mark t h)
-  use-sink (small-op1 and h) = or-second mark0 (or-first _ (operand-mark t h))
-  use-sink (small-op1 or h) = or-second mark0 (or-first _ (operand-mark t h))
-  use-sink (small-op1 xor h) = or-second mark0 (or-first _ (operand-mark t h))
-  use-sink (small-op1 gte h) = or-second mark0 (or-first _ (operand-mark t h))
-  use-sink (op1 assert h) = or-first _ (operand-mark t h)
-  use-sink (op1 rc h) = or-first _ (operand-mark t h)
-  use-sink (op1 jmp h) = or-first _ (operand-mark t h)
-  use-sink (op1 UsesOp1.call h) = or-first _ (operand-mark t h)
-  use-sink (cjmp-op0 h) = or-first _ (operand-mark t h)
-  use-sink (r9-itself UsesR9.call h) = or-second mark1 h
-  use-sink (r9-itself ret h) = h
-  use-sink (tape-op0 tload h) = or-first _ (operand-mark t h)
-  use-sink (tape-op0 tstore h) = or-first _ (operand-mark t h)
-  use-sink (tape-op0 sccall h) = or-first _ (operand-mark t h)
-  use-sink (tape-op1 tload h) = or-second mark0 (or-first _ (operand-mark t h))
-  use-sink (tape-op1 tstore h) = or-second mark0 (or-first _ (operand-mark t h))
-  use-sink (tape-op1 sccall h) = or-second mark0 (or-first _ (operand-mark t h))
-  use-sink (tload-dst h) = or-second mark0 (or-second mark1 (or-first _ (operand-mark t h)))
+  rule-computed (address-op0 mload h) = or-first _ (operand-mark t h)
+  rule-computed (address-op0 mstore h) = or-first _ (operand-mark t h)
+  rule-computed (address-op1 mload h) = or-second mark0 (or-first _ (operand-mark t h))
+  rule-computed (address-op1 mstore h) = or-second mark0 (or-first _ (operand-mark t h))
+  rule-computed (small-op0 and h) = or-first _ (operand-mark t h)
+  rule-computed (small-op0 or h) = or-first _ (operand-mark t h)
+  rule-computed (small-op0 xor h) = or-first _ (operand-mark t h)
+  rule-computed (small-op0 gte h) = or-first _ (operand-mark t h)
+  rule-computed (small-op1 and h) = or-second mark0 (or-first _ (operand-mark t h))
+  rule-computed (small-op1 or h) = or-second mark0 (or-first _ (operand-mark t h))
+  rule-computed (small-op1 xor h) = or-second mark0 (or-first _ (operand-mark t h))
+  rule-computed (small-op1 gte h) = or-second mark0 (or-first _ (operand-mark t h))
+  rule-computed (op1 assert h) = or-first _ (operand-mark t h)
+  rule-computed (op1 rc h) = or-first _ (operand-mark t h)
+  rule-computed (op1 jmp h) = or-first _ (operand-mark t h)
+  rule-computed (op1 UsesOp1.call h) = or-first _ (operand-mark t h)
+  rule-computed (cjmp-op0 h) = or-first _ (operand-mark t h)
+  rule-computed (r9-itself UsesR9.call h) = or-second mark1 h
+  rule-computed (r9-itself ret h) = h
+  rule-computed (tape-op0 tload h) = or-first _ (operand-mark t h)
+  rule-computed (tape-op0 tstore h) = or-first _ (operand-mark t h)
+  rule-computed (tape-op0 sccall h) = or-first _ (operand-mark t h)
+  rule-computed (tape-op1 tload h) = or-second mark0 (or-first _ (operand-mark t h))
+  rule-computed (tape-op1 tstore h) = or-second mark0 (or-first _ (operand-mark t h))
+  rule-computed (tape-op1 sccall h) = or-second mark0 (or-first _ (operand-mark t h))
+  rule-computed (tload-dst h) = or-second mark0 (or-second mark1 (or-first _ (operand-mark t h)))
 
-  sink-use : (c : OlaOpcode) → operandSink (t .registers) (classOf c) i ≡ true → OperandUse (markingOf t) i c
+  computed-rule : (c : OlaOpcode) → operandSink (t .registers) (classOf c) i ≡ true → OperandSink (markingOf t) i c
   unfolding operandSink sinksOf classOf
-  sink-use O.Add h = never h
-  sink-use O.Mul h = never h
-  sink-use O.Eq h = never h
-  sink-use O.Assert h = or-case _ _ h (λ a. op1 assert (is1 a)) never
-  sink-use O.Mov h = never h
-  sink-use O.Jmp h = or-case _ _ h (λ a. op1 jmp (is1 a)) never
-  sink-use O.Cjmp h = or-case _ _ h (λ a. cjmp-op0 (is0 a)) never
-  sink-use O.Call h = or-case _ _ h (λ a. op1 UsesOp1.call (is1 a)) (r9-itself UsesR9.call)
-  sink-use O.Ret h = r9-itself ret h
-  sink-use O.Mload h = or-case _ _ h (λ a. address-op0 mload (is0 a)) λ k. or-case _ _ k (λ a. address-op1 mload (is1 a)) never
-  sink-use O.Mstore h = or-case _ _ h (λ a. address-op0 mstore (is0 a)) λ k. or-case _ _ k (λ a. address-op1 mstore (is1 a)) never
-  sink-use O.End h = never h
-  sink-use O.Rc h = or-case _ _ h (λ a. op1 rc (is1 a)) never
-  sink-use O.And h = or-case _ _ h (λ a. small-op0 and (is0 a)) λ k. or-case _ _ k (λ a. small-op1 and (is1 a)) never
-  sink-use O.Or h = or-case _ _ h (λ a. small-op0 or (is0 a)) λ k. or-case _ _ k (λ a. small-op1 or (is1 a)) never
-  sink-use O.Xor h = or-case _ _ h (λ a. small-op0 xor (is0 a)) λ k. or-case _ _ k (λ a. small-op1 xor (is1 a)) never
-  sink-use O.Not h = never h
-  sink-use O.Neq h = never h
-  sink-use O.Gte h = or-case _ _ h (λ a. small-op0 gte (is0 a)) λ k. or-case _ _ k (λ a. small-op1 gte (is1 a)) never
-  sink-use O.Poseidon h = never h
-  sink-use O.Sload h = never h
-  sink-use O.Sstore h = never h
-  sink-use O.Tload h =
+  computed-rule O.Add h = never h
+  computed-rule O.Mul h = never h
+  computed-rule O.Eq h = never h
+  computed-rule O.Assert h = or-case _ _ h (λ a. op1 assert (is1 a)) never
+  computed-rule O.Mov h = never h
+  computed-rule O.Jmp h = or-case _ _ h (λ a. op1 jmp (is1 a)) never
+  computed-rule O.Cjmp h = or-case _ _ h (λ a. cjmp-op0 (is0 a)) never
+  computed-rule O.Call h = or-case _ _ h (λ a. op1 UsesOp1.call (is1 a)) (r9-itself UsesR9.call)
+  computed-rule O.Ret h = r9-itself ret h
+  computed-rule O.Mload h = or-case _ _ h (λ a. address-op0 mload (is0 a)) λ k. or-case _ _ k (λ a. address-op1 mload (is1 a)) never
+  computed-rule O.Mstore h = or-case _ _ h (λ a. address-op0 mstore (is0 a)) λ k. or-case _ _ k (λ a. address-op1 mstore (is1 a)) never
+  computed-rule O.End h = never h
+  computed-rule O.Rc h = or-case _ _ h (λ a. op1 rc (is1 a)) never
+  computed-rule O.And h = or-case _ _ h (λ a. small-op0 and (is0 a)) λ k. or-case _ _ k (λ a. small-op1 and (is1 a)) never
+  computed-rule O.Or h = or-case _ _ h (λ a. small-op0 or (is0 a)) λ k. or-case _ _ k (λ a. small-op1 or (is1 a)) never
+  computed-rule O.Xor h = or-case _ _ h (λ a. small-op0 xor (is0 a)) λ k. or-case _ _ k (λ a. small-op1 xor (is1 a)) never
+  computed-rule O.Not h = never h
+  computed-rule O.Neq h = never h
+  computed-rule O.Gte h = or-case _ _ h (λ a. small-op0 gte (is0 a)) λ k. or-case _ _ k (λ a. small-op1 gte (is1 a)) never
+  computed-rule O.Poseidon h = never h
+  computed-rule O.Sload h = never h
+  computed-rule O.Sstore h = never h
+  computed-rule O.Tload h =
       or-case _ _ h (λ a. tape-op0 tload (is0 a)) λ k.
       or-case _ _ k (λ a. tape-op1 tload (is1 a)) λ l.
       or-case _ _ l (λ a. tload-dst (marked-operand t (i .dst) a)) never
-  sink-use O.Tstore h = or-case _ _ h (λ a. tape-op0 tstore (is0 a)) λ k. or-case _ _ k (λ a. tape-op1 tstore (is1 a)) never
-  sink-use O.Sccall h = or-case _ _ h (λ a. tape-op0 sccall (is0 a)) λ k. or-case _ _ k (λ a. tape-op1 sccall (is1 a)) never
-  sink-use O.Sigcheck h = never h
-  sink-use O.Event h = never h
+  computed-rule O.Tstore h = or-case _ _ h (λ a. tape-op0 tstore (is0 a)) λ k. or-case _ _ k (λ a. tape-op1 tstore (is1 a)) never
+  computed-rule O.Sccall h = or-case _ _ h (λ a. tape-op0 sccall (is0 a)) λ k. or-case _ _ k (λ a. tape-op1 sccall (is1 a)) never
+  computed-rule O.Sigcheck h = never h
+  computed-rule O.Event h = never h
 
 -- The sinks of what was read
 
@@ -174,7 +174,7 @@ cell-span c a (suc n) x l u h = go (λ v. cell-span c (suc a) n x v (omega arith
 
 module _ (e : Environment) (t : MarkState markCells) (i : Instruction) (s : State numberCells) (o : Operands) where
   sink-read : (c : OlaOpcode) {n : Next numberCells} → operate numberCells e (classOf c) i s o ≡ pass n → readSink numberCells markCells t (classOf c) i s o ≡ true
-      → ReadUse (markingOf t) i e s o c
+      → ReadSink (markingOf t) i e s o c
   unfolding operate readSink classOf
   sink-read O.Add q h = never h
   sink-read O.Mul q h = never h
@@ -216,7 +216,7 @@ module _ (e : Environment) (t : MarkState markCells) (i : Instruction) (s : Stat
   sink-read O.Sigcheck q h = never h
   sink-read O.Event q h = never h
 
-  read-sink : {c : OlaOpcode} → ReadUse (markingOf t) i e s o c
+  read-sink : {c : OlaOpcode} → ReadSink (markingOf t) i e s o c
       → (n : Next numberCells) × (operate numberCells e (classOf c) i s o ≡ pass n) × (readSink numberCells markCells t (classOf c) i s o ≡ true)
   unfolding operate readSink classOf
   read-sink (cjmp-op1 l v h) = (_, pass-require _ (le-leb (o .op0) 1 l) (pass-bind _ v refl), operand-mark t h)
@@ -234,28 +234,28 @@ capacity-no-sink e n t h =
     let z : _≡_ {A = ℕ} 0 1 = cc in
     omega arith
 
-pub use-stops : (e : Environment) (q : GuardedState numberCells markCells) → ReachesUse e (q .plain) (markingOf (q .marks)) → guardedStep numberCells markCells e q ≡ sink
+pub reached-stops : (e : Environment) (q : GuardedState numberCells markCells) → ReachesSink e (q .plain) (markingOf (q .marks)) → guardedStep numberCells markCells e q ≡ sink
 unfolding guardedStep guardedRest
-use-stops e q (operand {i} {o} f u) =
+reached-stops e q (operand {i} {o} f u) =
     after-step _ (f .fetched) ∙ after-step _ (f .read)
-    ∙ sink-guard _ _ (λ c. never (sym c ∙ use-sink (q .marks) i u))
-use-stops e q (reading {i} {o} f n u) =
+    ∙ sink-guard _ _ (λ c. never (sym c ∙ rule-computed (q .marks) i u))
+reached-stops e q (reading {i} {o} f n u) =
     let r = read-sink e (q .marks) i (q .plain) o u in
     after-step _ (f .fetched) ∙ after-step _ (f .read)
     ∙ sink-guard _ _ (λ c. after-step _ (r .1) ∙ sink-guard _ _ (λ d. never (sym d ∙ r .2)))
 
-pub stop-uses : (e : Environment) (q : GuardedState numberCells markCells) → guardedStep numberCells markCells e q ≡ sink → ReachesUse e (q .plain) (markingOf (q .marks))
+pub stop-reaches : (e : Environment) (q : GuardedState numberCells markCells) → guardedStep numberCells markCells e q ≡ sink → ReachesSink e (q .plain) (markingOf (q .marks))
 unfolding guardedStep guardedRest
-stop-uses e q h =
+stop-reaches e q h =
     let x = after-sink _ _ h in
     let i = x .0 in
     let y = after-sink _ _ (x .2) in
     let o = y .0 in
     let f : InstructionRead e (q .plain) i o = record { fetched = x .1; read = y .1 } in
     guard-sink _ _ (y .2)
-    (λ b. operand f (sink-use (q .marks) i (i .opcode) b))
+    (λ b. operand f (computed-rule (q .marks) i (i .opcode) b))
     (λ b k.
     let z = after-sink _ _ k in
     guard-sink _ _ (z .2)
-    (λ c. reading f (λ u. never (sym b ∙ use-sink (q .marks) i u)) (sink-read e (q .marks) i (q .plain) o (i .opcode) (z .1) c))
+    (λ c. reading f (λ u. never (sym b ∙ rule-computed (q .marks) i u)) (sink-read e (q .marks) i (q .plain) o (i .opcode) (z .1) c))
     (λ c l. absurd (capacity-no-sink e (z .0) (marksAfter numberCells markCells (q .marks) (classOf (i .opcode)) i (q .plain) o) l)))

@@ -14,21 +14,21 @@ use Rattle.rules.specs.Field.{fieldAdd}
 use Rattle.rules.specs.Cells.{Cells, put, numberCells, markCells}
 use Rattle.rules.specs.Operands.{Operands}
 use Rattle.rules.specs.Step.{State, r9, tapeValues}
-use Rattle.rules.specs.Guarded.{slotMark, cellMark, cleanMany}
+use Rattle.rules.specs.Guarded.{contentMark, cellMark, cleanMany}
 use Rattle.rules.specs.MarkRules.{Place, register, cell, FromBoth, FromOne, add, mul, eq, neq, and, or, xor, gte, not, mov, Writes, both, one, mload, ret, mstore, call, tload}
 use Rattle.rules.proofs.Laws.CellLaws.{get-put-same, get-put-other}
 
 -- Cells that were cleaned
 
 pub stored-mark : (c : Cells ℕ) (a : ℕ) (b : Bool) → cellMark markCells (put c a (bit b)) a ≡ b
-stored-mark c a b = ap (slotMark markCells) (get-put-same c a (bit b)) ∙ go b
+stored-mark c a b = ap (contentMark markCells) (get-put-same c a (bit b)) ∙ go b
   where
     go : (b : Bool) → eqb (bit b) 1 ≡ b
     go true = refl
     go false = refl
 
 pub other-mark : (c : Cells ℕ) (a v x : ℕ) → (a ≡ x → ⊥) → cellMark markCells (put c a v) x ≡ cellMark markCells c x
-other-mark c a v x h = ap (slotMark markCells) (get-put-other c a v x h)
+other-mark c a v x h = ap (contentMark markCells) (get-put-other c a v x h)
 
 pub clean-outside : (c : Cells ℕ) (a : ℕ) (vs : List ℕ) (x : ℕ) → (a ≤ x → x < a + length vs → ⊥)
     → cellMark markCells (cleanMany markCells c a vs) x ≡ cellMark markCells c x

@@ -14,11 +14,11 @@ use Rattle.rules.specs.declared.Refusal.the-variants.{NotInField, CellAb
 use Rattle.rules.specs.Numbers.{p, choose, bit}
 use Rattle.rules.specs.Results.{pass, bind}
 use Rattle.rules.specs.Field.{isElement, fieldAdd, fieldMul}
-use Rattle.rules.specs.Memory.{Slot, absent, present}
+use Rattle.rules.specs.Memory.{Content, absent, present}
 use Rattle.rules.specs.Cells.{Cells, none, cell, get, put, count, numberCells, markCells}
 use Rattle.rules.specs.Operands.{Want, ignored, lacking, value, later, register, target, inField, valueOf, targetOf, absence, operand}
-use Rattle.rules.specs.Step.{State, Next, isStorable, slotValue, readBelow, readMany, readSpan, storeMany, storeOne}
-use Rattle.rules.specs.Guarded.{registerMark, operandMark, MarkState, slotMark, cellMark, spanMark, cleanMany}
+use Rattle.rules.specs.Step.{State, Next, isStorable, contentValue, readBelow, readMany, readSpan, storeMany, storeOne}
+use Rattle.rules.specs.Guarded.{registerMark, operandMark, MarkState, contentMark, cellMark, spanMark, cleanMany}
 use Rattle.rules.specs.Relations.{Both, both-refused, passed}
 use Rattle.rules.proofs.Laws.Relational.{both-same, both-bind, both-require}
 use Rattle.rules.proofs.Laws.BoolLaws.{false-true, or-left, or-right}
@@ -115,17 +115,17 @@ registers-set (cons x t) (suc i) b h = cons x (registers-set t i b h)
 
 -- cells
 
-data SlotsRelated : Slot ℕ → Slot ℕ → Slot ℕ → Type 0 where
-  no-slot : SlotsRelated absent absent absent
-  a-slot : {t v w : ℕ} → Related (eqb t 1) v w → SlotsRelated (present t) (present v) (present w)
+data ContentsRelated : Content ℕ → Content ℕ → Content ℕ → Type 0 where
+  no-content : ContentsRelated absent absent absent
+  a-content : {t v w : ℕ} → Related (eqb t 1) v w → ContentsRelated (present t) (present v) (present w)
 
-cells-get : {k c d : Cells ℕ} → CellsRelated k c d → (a : ℕ) → SlotsRelated (get k a) (get c a) (get d a)
-cells-get nil a = no-slot
+cells-get : {k c d : Cells ℕ} → CellsRelated k c d → (a : ℕ) → ContentsRelated (get k a) (get c a) (get d a)
+cells-get nil a = no-content
 cells-get (cons {a = b} {t} {v} {w} {k} {c} {d} h r) a = go (cells-get r a) (eqb b a)
   where
-    go : SlotsRelated (get k a) (get c a) (get d a) → (b : Bool)
-        → SlotsRelated (choose b (present t) (get k a)) (choose b (present v) (get c a)) (choose b (present w) (get d a))
-    go s true = a-slot h
+    go : ContentsRelated (get k a) (get c a) (get d a) → (b : Bool)
+        → ContentsRelated (choose b (present t) (get k a)) (choose b (present v) (get c a)) (choose b (present w) (get d a))
+    go s true = a-content h
     go s false = s
 
 cells-put : {k c d : Cells ℕ} → CellsRelated k c d → (a t : ℕ) {v w : ℕ} → Related (eqb t 1) v w
@@ -148,13 +148,13 @@ cells-count (cons h t) = ap suc (cells-count t)
 
 -- reading
 
-slot-read : {k c d : Slot ℕ} → SlotsRelated k c d → Both (Related (slotMark markCells k)) (slotValue numberCells c) (slotValue numberCells d)
-slot-read no-slot = both-refused
-slot-read (a-slot h) = passed h
+content-read : {k c d : Content ℕ} → ContentsRelated k c d → Both (Related (contentMark markCells k)) (contentValue numberCells c) (contentValue numberCells d)
+content-read no-content = both-refused
+content-read (a-content h) = passed h
 
 pub cell-read : {k c d : Cells ℕ} → CellsRelated k c d → (a : ℕ)
-    → Both (Related (cellMark markCells k a)) (slotValue numberCells (get c a)) (slotValue numberCells (get d a))
-cell-read h a = slot-read (cells-get h a)
+    → Both (Related (cellMark markCells k a)) (contentValue numberCells (get c a)) (contentValue numberCells (get d a))
+cell-read h a = content-read (cells-get h a)
 
 pub below-read : {k c d : Cells ℕ} → CellsRelated k c d → (r n : ℕ)
     → Both (Related (cellMark markCells k (r - n))) (readBelow numberCells c r n) (readBelow numberCells d r n)

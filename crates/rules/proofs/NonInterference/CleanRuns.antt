@@ -13,7 +13,7 @@ use Rattle.rules.specs.Memory.{present}
 use Rattle.rules.specs.Cells.{get, zipped, numberCells, markCells}
 use Rattle.rules.specs.Operands.{Operands}
 use Rattle.rules.specs.Step.{Environment, State}
-use Rattle.rules.specs.Guarded.{slotMark}
+use Rattle.rules.specs.Guarded.{contentMark}
 use Rattle.rules.specs.Entry.{GuardedSnapshot, usedAddresses, usedMarks}
 use Rattle.rules.specs.MarkRules.{
   Place,
@@ -37,7 +37,7 @@ use Rattle.rules.specs.MarkRules.{
   kept,
 }
 use Rattle.rules.specs.SinkRules.{
-  OperandUse,
+  OperandSink,
   address-op0,
   address-op1,
   small-op0,
@@ -48,12 +48,12 @@ use Rattle.rules.specs.SinkRules.{
   tape-op0,
   tape-op1,
   tload-dst,
-  ReadUse,
+  ReadSink,
   cjmp-op1,
   tstore-cell,
   sccall-cell,
   ret-pc,
-  ReachesUse,
+  ReachesSink,
   operand,
   reading,
   Comes,
@@ -94,7 +94,7 @@ no-operand h p = false-true (sym (clean-operand h p))
 no-place : {t : Marking} → Clean t → (x : Place) → t x ≡ true → ⊥
 no-place h x e = false-true (sym (h x) ∙ e)
 
-no-operand-use : {t : Marking} → Clean t → {i : Instruction} {c : OlaOpcode} → OperandUse t i c → ⊥
+no-operand-use : {t : Marking} → Clean t → {i : Instruction} {c : OlaOpcode} → OperandSink t i c → ⊥
 no-operand-use h (address-op0 f p) = no-operand h p
 no-operand-use h (address-op1 f p) = no-operand h p
 no-operand-use h (small-op0 f p) = no-operand h p
@@ -106,13 +106,13 @@ no-operand-use h (tape-op0 f p) = no-operand h p
 no-operand-use h (tape-op1 f p) = no-operand h p
 no-operand-use h (tload-dst p) = no-operand h p
 
-no-read-use : {t : Marking} → Clean t → {i : Instruction} {e : Environment} {s : State numberCells} {o : Operands} {c : OlaOpcode} → ReadUse t i e s o c → ⊥
+no-read-use : {t : Marking} → Clean t → {i : Instruction} {e : Environment} {s : State numberCells} {o : Operands} {c : OlaOpcode} → ReadSink t i e s o c → ⊥
 no-read-use h (cjmp-op1 l v p) = no-operand h p
 no-read-use h (tstore-cell v a l u e) = no-place h (cell a) e
 no-read-use h (sccall-cell v a l u e) = no-place h (cell a) e
 no-read-use h (ret-pc v w e) = no-place h _ e
 
-pub clean-reaches : {e : Environment} {s s′ : State numberCells} {t t′ : Marking} {k : ℕ} → Comes e s t k s′ t′ → Clean t → ReachesUse e s′ t′ → ⊥
+pub clean-reaches : {e : Environment} {s s′ : State numberCells} {t t′ : Marking} {k : ℕ} → Comes e s t k s′ t′ → Clean t → ReachesSink e s′ t′ → ⊥
 clean-reaches r h (operand f u) = no-operand-use (clean-comes r h) u
 clean-reaches r h (reading f n u) = no-read-use (clean-comes r h) u
 
@@ -122,12 +122,12 @@ not-marked : (b : Bool) → (b ≡ true → ⊥) → b ≡ false
 not-marked true h = absurd (h refl)
 not-marked false h = refl
 
-clean-cells : (l ts : List ℕ) → ((i : ℕ) → getD (map (λ t. eqb t 1) ts) i false ≡ true → ⊥) → (a : ℕ) → slotMark markCells (get (zipped l ts) a) ≡ false
+clean-cells : (l ts : List ℕ) → ((i : ℕ) → getD (map (λ t. eqb t 1) ts) i false ≡ true → ⊥) → (a : ℕ) → contentMark markCells (get (zipped l ts) a) ≡ false
 clean-cells [] ts h a = refl
 clean-cells (b ∷ l) [] h a = refl
 clean-cells (b ∷ l) (t ∷ ts) h a = go (clean-cells l ts (λ i. h (ℕ.suc i)) a) (eqb b a)
   where
-    go : slotMark markCells (get (zipped l ts) a) ≡ false → (c : Bool) → slotMark markCells (choose c (present t) (get (zipped l ts) a)) ≡ false
+    go : contentMark markCells (get (zipped l ts) a) ≡ false → (c : Bool) → contentMark markCells (choose c (present t) (get (zipped l ts) a)) ≡ false
     go k true = not-marked (eqb t 1) (h 0)
     go k false = k
 

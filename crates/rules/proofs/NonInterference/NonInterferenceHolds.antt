@@ -20,7 +20,7 @@ use Rattle.rules.specs.Calls.{Called, refusedCall, plainRunOf, guardedRu
 use Rattle.rules.specs.Relations.{BothRan}
 use Rattle.rules.specs.MarkRules.{Place, register, cell, Marking}
 use Rattle.rules.specs.SinkRules.{Comes}
-use Rattle.rules.specs.NonInterference.{MarkedBelow, Alike, SameCalls, MeetsSink, SinkAfter, unmarked, pausedAfter, startMarks, Reaches, reaches, Unmarked, NonInterference}
+use Rattle.rules.specs.NonInterference.{MarkedBelow, Alike, SameCalls, MeetsSink, SinkAfter, withoutMarks, pausedAfter, startMarks, Reaches, reaches, Unmarked, NonInterference}
 use Rattle.rules.proofs.Laws.BoolLaws.{and-with-true, and-with-false}
 use Rattle.rules.proofs.Laws.AnswerLaws.{paused-meaning, sink-meaning, sink-answer, refusal-not-sink}
 use Rattle.rules.proofs.Laws.EntryLaws.{all-at}
@@ -123,22 +123,22 @@ refused-no-sink f budget g a = refusal-not-sink f a
 -- Beside the plain call
 
 transparent : (program : Result (List Instruction)) (budget : ℕ) (g : GuardedSnapshot) → marksEntry g ≡ true
-    → (MeetsSink (guardedCall program budget g) → ⊥) → unmarked (guardedCall program budget g) ≡ plainCall program budget (g .plain)
+    → (MeetsSink (guardedCall program budget g) → ⊥) → withoutMarks (guardedCall program budget g) ≡ plainCall program budget (g .plain)
 unfolding guardedCall plainCall
 transparent (refuse f) budget g t h = refl
 transparent (pass program) budget g t h = go (guardedEntry g) refl
   where
     go : (b : Bool) → guardedEntry g ≡ b
-        → unmarked (choose (guardedEntry g) (guardedAnswered g (guardedRunOf program budget g)) (refusedCall BadState g))
+        → withoutMarks (choose (guardedEntry g) (guardedAnswered g (guardedRunOf program budget g)) (refusedCall BadState g))
         ≡ choose (plainEntry (g .plain)) (plainAnswered (g .plain) (plainRunOf program budget (g .plain))) (refusedCall BadState (g .plain))
     go true e =
-        ap unmarked (call-run program budget g e)
+        ap withoutMarks (call-run program budget g e)
         ∙ (ap (plainAnswered (g .plain))
         (run-beside numberCells markCells (environment program (g .plain)) budget (guardedStateOf g) .transparent
         (λ a. h (ap (λ (c : Called GuardedSnapshot). c .answer) (call-run program budget g e) ∙ (ap meaning a ∙ sink-meaning))))
         ∙ sym (plain-run program budget g budget e))
     go false e =
-        ap (λ b. unmarked (choose b (guardedAnswered g (guardedRunOf program budget g)) (refusedCall BadState g))) e
+        ap (λ b. withoutMarks (choose b (guardedAnswered g (guardedRunOf program budget g)) (refusedCall BadState g))) e
         ∙ ap (λ b. choose b (plainAnswered (g .plain) (plainRunOf program budget (g .plain))) (refusedCall BadState (g .plain))) (sym e ∙ entry-split g t)
 
 unfit : (program : Result (List Instruction)) (budget : ℕ) (g : GuardedSnapshot) → marksEntry g ≡ false → {instructions : List Instruction}
@@ -164,7 +164,7 @@ stops-early (pass program) budget g k a =
           paused-meaning),
     ))
 
--- Exactly at a listed use
+-- Exactly at a sink
 
 start-same : (g : GuardedSnapshot) → startMarks g ≡ markingOf (guardedStateOf g .marks)
 start-same g = pointwise places

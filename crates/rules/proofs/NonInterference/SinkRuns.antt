@@ -1,4 +1,4 @@
--- A guarded run meets refusal 18 after k steps exactly where it comes to a state after k steps whose step reaches a listed use.
+-- A guarded run meets refusal 18 after k steps exactly where it comes to a state after k steps whose step reaches a sink.
 use Prim.Native.Nat.{ℕ, zero, suc, _<_}
 use mathlib.Core.Path.{_≡_, refl, sym, ap, subst, _∙_}
 use mathlib.Core.Bool.{Bool, true, false}
@@ -16,12 +16,12 @@ use Rattle.rules.specs.Operands.{Operands}
 use Rattle.rules.specs.Step.{Environment, State, Finish, goesOn, ends, calls, delegates, Next, step, Ran, afterStep, onClock, onFinish}
 use Rattle.rules.specs.Guarded.{MarkState, marksAfter, GuardedState, GuardedNext, guardedRest, guardedStep, onGuardedStep, guardedRun}
 use Rattle.rules.specs.MarkRules.{Place, Marking, MarkedAfter}
-use Rattle.rules.specs.SinkRules.{InstructionRead, ReachesUse, AcceptedStep, Comes, start, onward}
+use Rattle.rules.specs.SinkRules.{InstructionRead, ReachesSink, AcceptedStep, Comes, start, onward}
 use Rattle.rules.proofs.Laws.ResultLaws.{pass-injective, after-passes, guard-passes}
 use Rattle.rules.proofs.Laws.DecodedRegisters.{AllInRange, fetch-in-range}
 use Rattle.rules.proofs.NonInterference.GuardedBesidePlain.{Beside, at-sink, beside-refused, passed, step-beside}
 use Rattle.rules.proofs.MarksAndSinks.MarksFollow.{markingOf, marks-exact}
-use Rattle.rules.proofs.MarksAndSinks.SinksExact.{use-stops, stop-uses}
+use Rattle.rules.proofs.MarksAndSinks.SinksExact.{reached-stops, stop-reaches}
 
 abbrev at : State numberCells → MarkState markCells → GuardedState numberCells markCells
 at s t = record { plain = s; marks = t }
@@ -118,7 +118,7 @@ module _ (e : Environment) (inRange : AllInRange (e .program)) where
     where
       go : (x : GuardedResult (GuardedNext numberCells markCells)) (y : Result (Next numberCells)) → guardedStep numberCells markCells e (at s t) ≡ x → step numberCells e s ≡ y
           → Beside numberCells markCells x y → StepsTo (at s t) s′ t′
-      go x y h k at-sink = absurd (a .unused (stop-uses e (at s t) h))
+      go x y h k at-sink = absurd (a .noSink (stop-reaches e (at s t) h))
       go x y h k (beside-refused {f}) =
           absurd
           (let b : _≡_ {A = Result (Next numberCells)} (refuse f) (pass (record { state = s′; finish = goesOn })) = sym k ∙ a .next in
@@ -150,7 +150,7 @@ module _ (e : Environment) (inRange : AllInRange (e .program)) where
         instruction = w .instruction;
         operands = w .operands;
         fetched = w .fetched;
-        unused = λ u. sink-passes (sym (use-stops e q u) ∙ h);
+        noSink = λ u. sink-passes (sym (reached-stops e q u) ∙ h);
         next = go (guardedStep numberCells markCells e q) (step numberCells e (q .plain)) refl h (step-beside numberCells markCells e q);
         clock = l;
         marks = λ x.
@@ -184,13 +184,13 @@ module _ (e : Environment) (inRange : AllInRange (e .program)) where
     pub runs : guardedRun numberCells markCells e n q ≡ sunk k (at s marks)
 
   pub comes-sinks : {s s″ : State numberCells} {T T″ : Marking} {k : ℕ} → Comes e s T k s″ T″ → (n : ℕ) → k < n
-      → (t : MarkState markCells) → T ≡ markingOf t → length (t .registers) ≡ 10 → ReachesUse e s″ T″ → Sunk n k (at s t) s″ T″
+      → (t : MarkState markCells) → T ≡ markingOf t → length (t .registers) ≡ 10 → ReachesSink e s″ T″ → Sunk n k (at s t) s″ T″
   unfolding guardedRun
   comes-sinks start zero l t h ten u = absurd (omega arith)
   comes-sinks (start {s}) (suc n) l t h ten u =
       record {
         marks = t;
-        runs = ap (λ x. onGuardedStep numberCells markCells (at s t) x (guardedRun numberCells markCells e n)) (use-stops e (at s t) (subst (ReachesUse e s) h u));
+        runs = ap (λ x. onGuardedStep numberCells markCells (at s t) x (guardedRun numberCells markCells e n)) (reached-stops e (at s t) (subst (ReachesSink e s) h u));
       }
   comes-sinks (onward a r) zero l t h ten u = absurd (omega arith)
   comes-sinks (onward {s} {s′} {t′ = T′} a r) (suc n) l t h ten u =
@@ -206,7 +206,7 @@ module _ (e : Environment) (inRange : AllInRange (e .program)) where
   pub record Came (n : ℕ) (q : GuardedState numberCells markCells) (r : Ran (GuardedState numberCells markCells)) : Type 0 where
     pub below : r .steps < n
     pub comes : Comes e (q .plain) (markingOf (q .marks)) (r .steps) (r .state .plain) (markingOf (r .state .marks))
-    pub reaches : ReachesUse e (r .state .plain) (markingOf (r .state .marks))
+    pub reaches : ReachesSink e (r .state .plain) (markingOf (r .state .marks))
 
   came-on : (n : ℕ) (q : GuardedState numberCells markCells) (m : GuardedNext numberCells markCells) → length (q .marks .registers) ≡ 10
       → guardedStep numberCells markCells e q ≡ passes m
@@ -243,5 +243,5 @@ module _ (e : Environment) (inRange : AllInRange (e .program)) where
           → ((q : GuardedState numberCells markCells) → length (q .marks .registers) ≡ 10 → guardedRun numberCells markCells e n q .answer ≡ MarkedSink → Came n q (guardedRun numberCells markCells e n q))
           → Came (suc n) q (onGuardedStep numberCells markCells q x (guardedRun numberCells markCells e n))
       go (refuses f) h a rest = absurd (let z : _≡_ {A = ℕ} 0 1 = cc in omega arith)
-      go sink h a rest = record { below = omega arith; comes = start; reaches = stop-uses e q h }
+      go sink h a rest = record { below = omega arith; comes = start; reaches = stop-reaches e q h }
       go (passes m) h a rest = came-on n q m ten h rest (m .next .finish) refl a

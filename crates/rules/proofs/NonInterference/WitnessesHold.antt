@@ -11,7 +11,7 @@ use Rattle.rules.specs.Answers.{Meaning}
 use Rattle.rules.specs.Entry.{GuardedSnapshot, usedNumbers, markedRegisters, markedCells, markedBelow}
 use Rattle.rules.specs.Calls.{guardedWords}
 use Rattle.rules.specs.NonInterference.{MarkedBelow, EqualUnless, Alike}
-use Rattle.rules.specs.Witnesses.{Witness, secret, carries, leaks, Carried, beyond, stores, Beyond, Witnesses}
+use Rattle.rules.specs.Witnesses.{Witness, secret, carries, leaks, MarksCarried, beyond, stores, Beyond, Witnesses}
 use Rattle.rules.proofs.Laws.BoolLaws.{false-true, and-left, and-right}
 use Rattle.rules.proofs.Laws.EntryLaws.{markedBelow-at}
 use Rattle.rules.proofs.Cases.Unfolding.{calling}
@@ -99,7 +99,7 @@ witness words budget g h differ alike below answer steps a s =
       stepped = s;
     }
 
-carried-holds : Carried
+carried-holds : MarksCarried
 unfolding secret carries calling
 carried-holds =
     record {

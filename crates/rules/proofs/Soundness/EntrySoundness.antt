@@ -13,7 +13,7 @@ use Rattle.rules.specs.Numbers.{p, heapEnd, choose}
 use Rattle.rules.specs.Memory.{present}
 use Rattle.rules.specs.Cells.{get, count, addresses, zipped, markCells}
 use Rattle.rules.specs.Step.{isStorable}
-use Rattle.rules.specs.Guarded.{slotMark, cellMark}
+use Rattle.rules.specs.Guarded.{contentMark, cellMark}
 use Rattle.rules.specs.Entry.{Snapshot, GuardedSnapshot, usedAddresses, usedNumbers, usedMarks, usedOutput, markedRegisters, every, risingFrom, markedBelow, plainEntry, markedNumbersBelow, marksEntry, guardedEntry, environment, stateOf, guardedStateOf}
 use Rattle.rules.specs.Soundness.{Sound, GuardedSound, EntersSound}
 use Rattle.rules.proofs.Laws.BoolLaws.{false-true, and-left, and-right}
@@ -53,7 +53,7 @@ zipped-below (b ∷ l) (u ∷ ts) (n ∷ ns) h a v t e =
     go (zipped-below l ts ns (and-right (not (eqb u 1) || ltb n p) _ h) a v) (eqb b a) t e
   where
     go : (cellMark markCells (zipped l ts) a ≡ true → get (zipped l ns) a ≡ present v → v < p) → (c : Bool)
-        → slotMark markCells (choose c (present u) (get (zipped l ts) a)) ≡ true → choose c (present n) (get (zipped l ns) a) ≡ present v → v < p
+        → contentMark markCells (choose c (present u) (get (zipped l ts) a)) ≡ true → choose c (present n) (get (zipped l ns) a) ≡ present v → v < p
     go k true t e =
         let z : n ≡ v = cc in
         subst (λ x. x < p) z (markedBelow-at (map (λ t. eqb t 1) (u ∷ ts)) (n ∷ ns) h 0 t)

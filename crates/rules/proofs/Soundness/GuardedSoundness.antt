@@ -14,7 +14,7 @@ use Rattle.rules.specs.Memory.{present}
 use Rattle.rules.specs.Cells.{Cells, none, cell, get, put, addresses, RisingFrom, numberCells, markCells}
 use Rattle.rules.specs.Opcodes.{Class, addition, multiplication, equality, small, complement, move, assert, rangeCheck, jump, conditionalJump, call, return, load, store, tapeLoad, tapeStore, contractCall, end, uncovered, classOf}
 use Rattle.rules.specs.Operands.{Operands}
-use Rattle.rules.specs.Step.{Environment, State, Ran, slotValue}
+use Rattle.rules.specs.Step.{Environment, State, Ran, contentValue}
 use Rattle.rules.specs.Guarded.{registerMark, cellMark, MarkState, cleanMany, marksAfter, GuardedState, GuardedNext, guardedRest, guardedStep, onGuardedStep, guardedRun}
 use Rattle.rules.specs.Relations.{Both, passed}
 use Rattle.rules.specs.Soundness.{Sound, GuardedSound, KeepsSound}
@@ -91,7 +91,7 @@ beside-addresses CellsRelated.nil = refl
 beside-addresses (CellsRelated.cons {a = a} h r) = ap (_∷_ a) (beside-addresses r)
 
 beside-cell : {k c : Cells ℕ} → CellsRelated k c c → (a v : ℕ) → cellMark markCells k a ≡ true → get c a ≡ present v → v < p
-beside-cell {k} h a v t e = go (subst (λ x. Both (Related (cellMark markCells k a)) (slotValue numberCells x) (slotValue numberCells x)) e (cell-read h a))
+beside-cell {k} h a v t e = go (subst (λ x. Both (Related (cellMark markCells k a)) (contentValue numberCells x) (contentValue numberCells x)) e (cell-read h a))
   where
     go : {v : ℕ} → Both (Related (cellMark markCells k a)) (pass v) (pass v) → v < p
     go (passed r) = below r t

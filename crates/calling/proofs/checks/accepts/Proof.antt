@@ -3,7 +3,7 @@ use borrow.Author.Tests.{not-true, not-false}
 use borrow.Author.Needs.{needs}
 use denote.Ref.{now}
 use Rattle.rules.specs.Entry.{GuardedSnapshot}
-use Rattle.calling.specs.ModeCalls.{handed}
+use Rattle.interpreter.specs.Runs.{handed}
 use Rattle.calling.proofs.Answered.{plainly-unfit, fit-by-marks, plainly-fit}
 use Rattle.calling.proofs.checks.accepts.Statement.{statement}
 use Rattle.calling.proofs.checks.accepts.Tie as tie

@@ -1,5 +1,5 @@
 -- `calling::runs::run_budget_text` meets its contract: the text is loaded into words and a budget, and the call is theirs.
-use mathlib.Core.Path.{sym, subst, _∙_}
+use mathlib.Core.Path.{sym, subst}
 use native.Mathlib.Omega.{arith}
 use lib.Seq.{length-take-le}
 use Rattle.program_text.specs.TextLoads.{LoadsBudgetText}

@@ -11,7 +11,7 @@ refuse-requires c κs = search needs
 
 returns : tie.Need-returns
 unfolding check
-returns c = rw (lt-leb 1 (c .before .before .before .args .frame) (omega arith)) (c .refuse .ensures _)
+returns c = rw (lt-leb 1 (c .before .before .before .args .r9) (omega arith)) (c .refuse .ensures _)
 
 sub-store-cell : tie.Need-sub-store-cell
 sub-store-cell c = search needs
@@ -21,7 +21,7 @@ store-cell-requires c κs = search needs
 
 returns-2 : tie.Need-returns-2
 unfolding check
-returns-2 c = rw (le-leb 1 (c .before .before .before .args .frame) (omega arith)) (c .store-cell .ensures)
+returns-2 c = rw (le-leb 1 (c .before .before .before .args .r9) (omega arith)) (c .store-cell .ensures)
 
 pub call-spec : {M : Type 1} → statement M
 call-spec = tie.close (tie.spec refuse-requires returns sub-store-cell store-cell-requires returns-2)

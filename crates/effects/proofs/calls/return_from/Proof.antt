@@ -25,16 +25,16 @@ module _ (c : tie.After-known-told) where
   abbrev place : ℕ
   place = c .before .at .given .0 .0
 
-  at-place : foundOf (take (entry .args .count) (entry .args .addresses .now)) (entry .args .frame - 2) ≡ At place
+  at-place : foundOf (take (entry .args .count) (entry .args .addresses .now)) (entry .args .r9 - 2) ≡ At place
   at-place = sym (c .before .before .before .find .ensures) ∙ c .before .at .given .1
 
   place-used : place < entry .args .count
-  place-used = found-within (entry .args .count) (entry .args .addresses .now) (entry .pre .addresses) (entry .args .frame - 2) place (sym at-place)
+  place-used = found-within (entry .args .count) (entry .args .addresses .now) (entry .pre .addresses) (entry .args .r9 - 2) place (sym at-place)
 
-  two-below : 2 ≤ entry .args .frame
+  two-below : 2 ≤ entry .args .r9
   two-below = c .before .before .before .before .if1 .left
 
-  next-address : entry .args .frame - 1 ≡ suc (entry .args .frame - 2)
+  next-address : entry .args .r9 - 1 ≡ suc (entry .args .r9 - 2)
   next-address = let h = two-below in omega arith
 
 -- where the place behind it was looked at
@@ -45,14 +45,14 @@ module _ (c : tie.After-is-next) where
   abbrev s : tie.Start
   s = entry found
 
-  absent-next : c .is-next .result ≡ false → foundOf (take (s .args .count) (s .args .addresses .now)) (s .args .frame - 1) ≡ Absent (place found + 1)
+  absent-next : c .is-next .result ≡ false → foundOf (take (s .args .count) (s .args .addresses .now)) (s .args .r9 - 1) ≡ Absent (place found + 1)
   absent-next h =
-      next-absent (s .args .count) (s .args .addresses .now) (s .pre .addresses) (s .args .frame - 2) (place found) (s .args .frame - 1)
+      next-absent (s .args .count) (s .args .addresses .now) (s .pre .addresses) (s .args .r9 - 2) (place found) (s .args .r9 - 1)
       (at-place found) (next-address found) (sym (c .is-next .ensures) ∙ h)
 
-  at-next : c .is-next .result ≡ true → foundOf (take (s .args .count) (s .args .addresses .now)) (s .args .frame - 1) ≡ At (place found + 1)
+  at-next : c .is-next .result ≡ true → foundOf (take (s .args .count) (s .args .addresses .now)) (s .args .r9 - 1) ≡ At (place found + 1)
   at-next h =
-      next-present (s .args .count) (s .args .addresses .now) (s .pre .addresses) (s .args .frame - 2) (place found) (s .args .frame - 1)
+      next-present (s .args .count) (s .args .addresses .now) (s .pre .addresses) (s .args .r9 - 2) (place found) (s .args .r9 - 1)
       (at-place found) (next-address found) (sym (c .is-next .ensures) ∙ h)
 
 -- where the upper one stands there
@@ -60,13 +60,13 @@ module _ (c : tie.Else2) where
   abbrev k : tie.After-is-next
   k = c .before
 
-  at-upper : foundOf (take (s k .args .count) (s k .args .addresses .now)) (s k .args .frame - 1) ≡ At (place (found k) + 1)
+  at-upper : foundOf (take (s k .args .count) (s k .args .addresses .now)) (s k .args .r9 - 1) ≡ At (place (found k) + 1)
   at-upper = at-next k (not-false (k .is-next .result) (c .if2 .left))
 
   upper-used : place (found k) + 1 < s k .args .count
   upper-used =
       let a = s k .args in
-      found-within (a .count) (a .addresses .now) (s k .pre .addresses) (a .frame - 1) (place (found k) + 1) (sym at-upper)
+      found-within (a .count) (a .addresses .now) (s k .pre .addresses) (a .r9 - 1) (place (found k) + 1) (sym at-upper)
 
   upper-numbered : place (found k) + 1 < length (s k .args .numbers .now)
   upper-numbered = omega (arith, upper-used, s k .pre .addresses .within, s k .pre .level)
@@ -76,12 +76,12 @@ module _ (c : tie.Else2) where
 
   -- what both cells say
   returned : let a = s k .args in let i = place (found k) in
-      returnsFrom (a .guarded) (cellsOf (a .count) (a .addresses .now) (a .numbers .now)) (cellsOf (a .count) (a .addresses .now) (a .marks .now)) (a .frame)
+      returnsFrom (a .guarded) (cellsOf (a .count) (a .addresses .now) (a .numbers .now)) (cellsOf (a .count) (a .addresses .now) (a .marks .now)) (a .r9)
       ≡ sinkWhere (a .guarded && eqb (getD (a .marks .now) (i + 1) 0) 1)
       (SetRegister 9 (getD (a .numbers .now) i 0) (a .guarded && eqb (getD (a .marks .now) i 0) 1) (getD (a .numbers .now) (i + 1) 0))
   returned =
       let a = s k .args in
-      both-present (a .guarded) (a .count) (a .addresses .now) (a .numbers .now) (a .marks .now) (s k .pre) (a .frame)
+      both-present (a .guarded) (a .count) (a .addresses .now) (a .numbers .now) (a .marks .now) (s k .pre) (a .r9)
       (place (found k)) (place (found k) + 1) (two-below (found k)) (at-place (found k)) at-upper
 
 refuse-requires : tie.Need-refuse-requires
@@ -91,7 +91,7 @@ returns : tie.Need-returns
 returns c =
     let s = c .before .before .before .before .before in
     let a = s .args in
-    rw (no-second (a .guarded) (a .count) (a .addresses .now) (a .numbers .now) (a .marks .now) (s .pre) (a .frame) (c .before .if1 .taken))
+    rw (no-second (a .guarded) (a .count) (a .addresses .now) (a .numbers .now) (a .marks .now) (s .pre) (a .r9) (c .before .if1 .taken))
     (c .refuse .ensures)
 
 find-requires : tie.Need-find-requires
@@ -120,7 +120,7 @@ returns-2 c =
     let k = c .before .before in
     let a = s k .args in
     let e = absent-next k (not-true (k .is-next .result) (c .before .if2 .taken)) in
-    rw (first-absent (a .guarded) (a .count) (a .addresses .now) (a .numbers .now) (a .marks .now) (s k .pre) (a .frame) (place (found k) + 1) e)
+    rw (first-absent (a .guarded) (a .count) (a .addresses .now) (a .numbers .now) (a .marks .now) (s k .pre) (a .r9) (place (found k) + 1) e)
     (c .refuse3 .ensures)
 
 add-high : tie.Need-add-high
@@ -159,7 +159,7 @@ returns-4 c =
     let s = c .before .before .before .before .before .before .before .before in
     let a = s .args in
     let e = sym (c .before .before .before .find .ensures) ∙ c .before .enum-told .given .1 in
-    rw (second-absent (a .guarded) (a .count) (a .addresses .now) (a .numbers .now) (a .marks .now) (s .pre) (a .frame) _ e) (c .refuse2 .ensures)
+    rw (second-absent (a .guarded) (a .count) (a .addresses .now) (a .numbers .now) (a .marks .now) (s .pre) (a .r9) _ e) (c .refuse2 .ensures)
 
 -- the upper cell is not marked, in a guarded run
 clean : (c : tie.Joined3) → let k = found (c .before .before) in

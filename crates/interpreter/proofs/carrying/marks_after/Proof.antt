@@ -1,5 +1,5 @@
 -- `interpreter::carrying::marks_after` meets its contract.
-use Rattle.interpreter.specs.Steps.{marksAfter}
+use Rattle.interpreter.specs.Steps.{registerMarksAfter}
 use borrow.Author.Needs.{needs}
 use Rattle.interpreter.proofs.carrying.marks_after.Statement.{statement}
 use Rattle.interpreter.proofs.carrying.marks_after.Tie as tie
@@ -8,11 +8,11 @@ with-mark-requires : tie.Need-with-mark-requires
 with-mark-requires c κs = search needs
 
 returns : tie.Need-returns
-unfolding marksAfter
+unfolding registerMarksAfter
 returns c = rw (c .before .if1 .taken) (λ i. record { registers = c .with-mark .ensures .0 i })
 
 returns-2 : tie.Need-returns-2
-unfolding marksAfter
+unfolding registerMarksAfter
 returns-2 c = rw (c .before .if1 .left)
 
 pub marks-after-spec : {M : Type 1} → statement M

@@ -1,5 +1,5 @@
 // The library's functions, by which run and which program.
-use crate::Entry;
+use crate::Form;
 use crate::Run;
 use executor::guarded;
 use executor::plain;
@@ -10,7 +10,7 @@ use rules::Ran;
 
 pub(crate) fn enter(
     run: Run,
-    entry: Entry,
+    form: Form,
     words: &[u64],
     text: &[u8],
     machine: Machine,
@@ -22,18 +22,9 @@ pub(crate) fn enter(
     output: &mut [u64],
 ) -> Ran {
     match run {
-        Run::Plain => enter_plain(
-            entry,
-            words,
-            text,
-            machine,
-            addresses,
-            numbers,
-            tape,
-            output,
-        ),
+        Run::Plain => enter_plain(form, words, text, machine, addresses, numbers, tape, output),
         Run::Guarded => enter_guarded(
-            entry,
+            form,
             words,
             text,
             machine,
@@ -48,7 +39,7 @@ pub(crate) fn enter(
 }
 
 fn enter_plain(
-    entry: Entry,
+    form: Form,
     words: &[u64],
     text: &[u8],
     machine: Machine,
@@ -57,22 +48,22 @@ fn enter_plain(
     tape: &mut [u64],
     output: &mut [u64],
 ) -> Ran {
-    match entry {
-        Entry::Step => machine::lend_and_step(words, machine, addresses, numbers, tape, output),
-        Entry::Words(budget) => {
+    match form {
+        Form::Step => machine::lend_and_step(words, machine, addresses, numbers, tape, output),
+        Form::Words(budget) => {
             plain::run_words(words, budget, machine, addresses, numbers, tape, output)
         }
-        Entry::Text(budget) => {
+        Form::Text(budget) => {
             plain::run_text(text, budget, machine, addresses, numbers, tape, output)
         }
-        Entry::BudgetText => {
+        Form::BudgetText => {
             plain::run_budget_text(text, machine, addresses, numbers, tape, output)
         }
     }
 }
 
 fn enter_guarded(
-    entry: Entry,
+    form: Form,
     words: &[u64],
     text: &[u8],
     machine: Machine,
@@ -83,8 +74,8 @@ fn enter_guarded(
     tape: &mut [u64],
     output: &mut [u64],
 ) -> Ran {
-    match entry {
-        Entry::Step => machine::lend_and_step_guarded(
+    match form {
+        Form::Step => machine::lend_and_step_guarded(
             words,
             GuardedMachine { machine, extras },
             addresses,
@@ -93,7 +84,7 @@ fn enter_guarded(
             tape,
             output,
         ),
-        Entry::Words(budget) => guarded::run_words(
+        Form::Words(budget) => guarded::run_words(
             words,
             budget,
             machine,
@@ -104,7 +95,7 @@ fn enter_guarded(
             tape,
             output,
         ),
-        Entry::Text(budget) => guarded::run_text(
+        Form::Text(budget) => guarded::run_text(
             text,
             budget,
             machine,
@@ -115,7 +106,7 @@ fn enter_guarded(
             tape,
             output,
         ),
-        Entry::BudgetText => guarded::run_budget_text(
+        Form::BudgetText => guarded::run_budget_text(
             text,
             machine,
             extras,
