@@ -149,7 +149,7 @@ fn parts(state: &State) -> [Part; 7] {
     ]
 }
 
-/// What each part held when it was last written, the lent buffers in their whole length.
+/// What each part held when it was last written, the buffers in their whole capacity.
 struct Shown([Part; 7]);
 
 impl Shown {

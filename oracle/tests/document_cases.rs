@@ -70,7 +70,7 @@ fn stores() {
 fn calls_at_the_lowest_cells() {
     assert_eq!(refusal("call with r9 = 0"), 14);
     assert_eq!(state_after_one_step("call with r9 = 1").cells[&0], 2);
-    assert_eq!(refusal("ret with r9 = 1, cell 0 held"), 11);
+    assert_eq!(refusal("ret with r9 = 1, cell 0 present"), 11);
 }
 
 #[test]

@@ -153,7 +153,7 @@ fn a_loop_goes_on_until_the_clock_ends() {
     }
 }
 
-/// Document 01 refuses this 11: the first cell is not held. The source asks for memory for all of them before it looks.
+/// Document 01 refuses this 11: the first cell is not present. The source asks for memory for all of them before it looks.
 #[test]
 fn a_long_span_asks_for_memory_first() {
     let tstore = frame(

@@ -77,7 +77,7 @@ fn document() -> Vec<Case> {
         one("mstore of p+1", &mstore).register(1, P + 1),
         one("call with r9 = 0", &call),
         one("call with r9 = 1", &call).register(9, 1),
-        one("ret with r9 = 1, cell 0 held", &ret)
+        one("ret with r9 = 1, cell 0 present", &ret)
             .register(9, 1)
             .cells(0, &[0]),
         one(
@@ -219,10 +219,10 @@ fn jumps_and_calls() -> Vec<Case> {
         )
         .cells(0, &[0x77]),
         one("ret with r9 = 0", &[ret]),
-        one("ret with r9 = 2, cell 1 not held", &[ret])
+        one("ret with r9 = 2, cell 1 not present", &[ret])
             .register(9, 2)
             .cells(0, &[0]),
-        one("ret with r9 = 2, cell 0 not held", &[ret])
+        one("ret with r9 = 2, cell 0 not present", &[ret])
             .register(9, 2)
             .cells(1, &[0]),
         one("ret to p and 2^32", &[ret])
@@ -242,7 +242,7 @@ fn memory() -> Vec<Case> {
     let mload = |op0, op1| [frame(MLOAD, op0, op1, reg(0))];
     let mstore = |op0, op1| [frame(MSTORE, op0, op1, reg(1))];
     vec![
-        one("mload of a cell not held", &mload(imm(3), imm(4))).cells(6, &[1]),
+        one("mload of a cell not present", &mload(imm(3), imm(4))).cells(6, &[1]),
         one("mload past p in the field", &mload(imm(P - 1), imm(3))).cells(2, &[0xB]),
         one("mload of a factor", &mload(reg(1), Operand::Factor(2, 3)))
             .register(1, 1)
@@ -255,12 +255,12 @@ fn memory() -> Vec<Case> {
         )
         .cells(STACK_END - 1, &[1]),
         one(
-            "mload of the first heap cell, not held",
+            "mload of the first heap cell, not present",
             &mload(imm(STACK_END), imm(0)),
         ),
         one("mload of a cell that holds p", &mload(imm(0), imm(0))).cells(0, &[P]),
         one("mstore to a new cell", &mstore(imm(3), imm(4))).register(1, 9),
-        one("mstore to a held cell", &mstore(imm(3), imm(4)))
+        one("mstore to a present cell", &mstore(imm(3), imm(4)))
             .register(1, 9)
             .cells(6, &[1, 2, 3]),
         one(
@@ -294,7 +294,7 @@ fn tape() -> Vec<Case> {
             .cells(3, &[5])
             .tape(&[1, 2])
             .output(&[3]),
-        one("tstore of a cell not held", &tstore(3, 2)).cells(3, &[5]),
+        one("tstore of a cell not present", &tstore(3, 2)).cells(3, &[5]),
         one("tstore to the heap's end", &tstore(HEAP_END - 1, 1)).cells(HEAP_END - 1, &[5]),
         one("tstore to p", &tstore(P - 1, 1)),
         one("tstore of 0 from p-1", &tstore(P - 1, 0)),
