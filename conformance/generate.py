@@ -19,7 +19,7 @@ PARTS = [
     ("value", "What each opcode gives.", values.cases),
     ("kind", "Each opcode with each kind of operand in each place.", kinds.cases),
     ("refusal", "Each refusal of a step, and each two that can meet.", refusals.cases),
-    ("mark", "Marks: where they go, and which uses are refused.", marks.cases),
+    ("mark", "Marks: where they go, and each sink.", marks.cases),
     ("region", "The regions' edges.", regions.cases),
     ("capacity", "Buffers just long enough, and one too short; what stands in unused places.", capacities.cases),
     ("clock", "The clock's end and the budget's.", clocks.cases),

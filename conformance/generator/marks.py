@@ -1,4 +1,4 @@
-"""Where marks go, and which uses of a marked number are refused: each opcode with one thing marked at a time, and with all of them."""
+"""Where marks go, and each sink: each opcode with one thing marked at a time, and with all of them."""
 
 from .frames import OPCODES, PLACES, factor, immediate, offset, register
 from .passing import CELLS, OPERANDS, passing
