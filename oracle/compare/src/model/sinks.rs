@@ -1,10 +1,10 @@
-//! The sinks: the listed uses of document 01, section 'Marks'.
+//! The sinks of document 01, section 'Marks'.
 
 use ola_core::vm::opcodes::OlaOpcode;
 
-/// What of an instruction must not be marked.
+/// Where an instruction has a sink: what of it must not be marked.
 #[derive(Debug, Clone, Copy, PartialEq, Eq, PartialOrd, Ord)]
-pub enum Use {
+pub enum Place {
     Op0,
     Op1,
     Dst,
@@ -18,20 +18,23 @@ pub enum Use {
 #[derive(Debug, Clone, Copy, PartialEq, Eq)]
 pub struct Sink {
     pub opcode: OlaOpcode,
-    pub place: Use,
+    pub place: Place,
 }
 
 /// All sinks, in document 01's order.
 pub fn all_sinks() -> Vec<Sink> {
     use OlaOpcode::*;
-    let listed: [(&[OlaOpcode], &[Use]); 7] = [
-        (&[MLOAD, MSTORE, AND, OR, XOR, GTE], &[Use::Op0, Use::Op1]),
-        (&[ASSERT, RC, JMP, CALL], &[Use::Op1]),
-        (&[CJMP], &[Use::Op0, Use::Op1]),
-        (&[CALL, RET], &[Use::R9]),
-        (&[TLOAD], &[Use::Op0, Use::Op1, Use::Dst]),
-        (&[TSTORE, SCCALL], &[Use::Op0, Use::Op1, Use::Cells]),
-        (&[RET], &[Use::ReturnPc]),
+    let listed: [(&[OlaOpcode], &[Place]); 7] = [
+        (
+            &[MLOAD, MSTORE, AND, OR, XOR, GTE],
+            &[Place::Op0, Place::Op1],
+        ),
+        (&[ASSERT, RC, JMP, CALL], &[Place::Op1]),
+        (&[CJMP], &[Place::Op0, Place::Op1]),
+        (&[CALL, RET], &[Place::R9]),
+        (&[TLOAD], &[Place::Op0, Place::Op1, Place::Dst]),
+        (&[TSTORE, SCCALL], &[Place::Op0, Place::Op1, Place::Cells]),
+        (&[RET], &[Place::ReturnPc]),
     ];
     let mut sinks = vec![];
     for (opcodes, places) in listed {
@@ -48,12 +51,12 @@ pub fn all_sinks() -> Vec<Sink> {
 impl Sink {
     pub fn name(&self) -> String {
         let place = match self.place {
-            Use::Op0 => "op0",
-            Use::Op1 => "op1",
-            Use::Dst => "dst",
-            Use::R9 => "R9",
-            Use::Cells => "cells",
-            Use::ReturnPc => "pc",
+            Place::Op0 => "op0",
+            Place::Op1 => "op1",
+            Place::Dst => "dst",
+            Place::R9 => "R9",
+            Place::Cells => "cells",
+            Place::ReturnPc => "pc",
         };
         format!("{:?} {place}", self.opcode)
     }
