@@ -1,21 +1,14 @@
 //! Buffers of the greatest capacities, holding a start.
 
-use ola::{Buffers, Lent, Machine, Marks};
+use ola::{Buffers, Lent, Marks};
 use oracle::domain::{MOST_CELLS, MOST_OUTPUT, MOST_TAPE};
 use oracle::state::State;
 
+use crate::machine::machine_of;
+
 pub fn lent(start: &State) -> Lent {
     Lent {
-        machine: Machine {
-            registers: start.registers,
-            pc: start.pc,
-            clk: start.clk,
-            psp: start.psp_start,
-            storage_addr: start.storage_address,
-            cell_count: start.cells.len() as u64,
-            tape_count: start.tape.len() as u64,
-            output_count: start.output.len() as u64,
-        },
+        machine: machine_of(start),
         extras: Marks::default(),
         buffers: Buffers {
             addresses: padded(start.cells.keys(), MOST_CELLS),

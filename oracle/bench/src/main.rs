@@ -8,6 +8,8 @@ mod growth;
 mod instructions;
 mod interface;
 mod lent;
+#[path = "../../compare/src/machine.rs"]
+mod machine;
 mod programs;
 mod stack;
 mod steps;
@@ -77,8 +79,8 @@ fn options() -> Result<Option<Options>, String> {
 fn heading() -> String {
     let cores = thread::available_parallelism().map_or(1, |cores| cores.get());
     format!(
-        "Measured on {}, {cores} cores, release builds, in time of the processor. All that is compared takes turns; a time is the median of \
-         its turns, a ratio the median of the turns' ratios.",
+        "Measured on {}, {cores} cores, release builds, in time of the processor. All that is compared takes turns; a time is the median \
+         of its turns, a ratio the median of the turns' ratios.",
         consts::ARCH.replace('_', "-")
     )
 }

@@ -19,7 +19,8 @@ const MOST_OF_PLAIN: f64 = 1.25;
 pub fn table() -> String {
     let mut text = String::from(
         "\
-| program | resume | yardstick | plain | guarded run | guarded run, with marks | resume / plain | plain / yardstick | guarded run / plain | with marks / plain |
+| program | resume | yardstick | plain | guarded run | guarded run, with marks \
+| resume / plain | plain / yardstick | guarded run / plain | with marks / plain |
 |---|---|---|---|---|---|---|---|---|---|
 ",
     );

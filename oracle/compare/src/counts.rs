@@ -133,14 +133,7 @@ impl StepCounts {
             need(count, format!("outcome e{number}"));
         }
         missing.extend(self.edges.missing());
-        if missing.is_empty() {
-            Ok(())
-        } else {
-            Err(format!(
-                "nothing differs, but these were never met: {}",
-                missing.join("; ")
-            ))
-        }
+        all_met(&missing)
     }
 
     pub fn tables(&self, options: &Options) -> String {
@@ -207,6 +200,18 @@ impl StepCounts {
             combinations.len(),
             grouped(rarest)
         ));
+    }
+}
+
+/// After a comparison in which nothing differed: an error names what is missing.
+pub fn all_met(missing: &[String]) -> Result<(), String> {
+    if missing.is_empty() {
+        Ok(())
+    } else {
+        Err(format!(
+            "nothing differs, but these were never met: {}",
+            missing.join("; ")
+        ))
     }
 }
 

@@ -81,7 +81,8 @@ fn compare_call(seed: u64, number: u64, counts: &mut Counts) -> Result<(), Strin
     };
     let called = predicted_call(program, &start, run).map_err(|what| {
         format!(
-            "VIOLATION: {what}\nagain with: damaged --seed {seed:x} --only {number}\n{} with budget {budget}\nwords {words:x?}\ntext {:?}\nstart {start:x?}",
+            "VIOLATION: {what}\nagain with: damaged --seed {seed:x} --only {number}\n\
+             {} with budget {budget}\nwords {words:x?}\ntext {:?}\nstart {start:x?}",
             function_name(shape, run),
             String::from_utf8_lossy(&text)
         )

@@ -5,6 +5,7 @@ use ola::{Answer, Buffers, Lent, Machine, Program};
 use oracle::frames::encode;
 use oracle::splitmix::SplitMix64;
 
+use crate::counts::all_met;
 use crate::damage;
 use crate::entry::Run;
 use crate::generate::{self, starts, Form};
@@ -54,7 +55,10 @@ fn compare_program(seed: u64, number: u64, counts: &mut Counts) -> Result<(), St
     let twin = starts::twin(&mut random, &start);
 
     compare_pair(program, &start, &twin, counts).map_err(|what| {
-        format!("VIOLATION: {what}\nagain with: guarded --seed {seed:x} --only {number}\nwords {words:x?}\nbudget {budget}\nstart {start:x?}\ntwin {twin:x?}")
+        format!(
+            "VIOLATION: {what}\nagain with: guarded --seed {seed:x} --only {number}\n\
+             words {words:x?}\nbudget {budget}\nstart {start:x?}\ntwin {twin:x?}"
+        )
     })
 }
 
@@ -225,14 +229,7 @@ impl Counts {
             .filter(|(_, count)| **count == 0)
             .map(|(sink, _)| sink.name())
             .collect();
-        if missing.is_empty() {
-            Ok(())
-        } else {
-            Err(format!(
-                "nothing differs, but these were never met: {}",
-                missing.join("; ")
-            ))
-        }
+        all_met(&missing)
     }
 
     fn tables(&self, options: &Options) -> String {

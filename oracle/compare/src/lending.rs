@@ -1,9 +1,10 @@
 //! What is lent to the library: made from a state, made into a model, and what must be left in it.
 
-use ola::{Buffers, Lent, Machine, Marks};
+use ola::{Buffers, Lent, Marks};
 use oracle::domain::{MOST_CELLS, MOST_OUTPUT, MOST_TAPE};
 use oracle::state::State;
 
+use crate::machine::machine_of;
 use crate::model::{Capacity, Model};
 
 /// What stands in the buffers beyond their counts.
@@ -133,19 +134,6 @@ pub fn difference(expected: &Lent, given: &Lent) -> Option<String> {
             "{name}[{place}]: expected {expected:x}, given {given:x}"
         ))
     })
-}
-
-pub fn machine_of(state: &State) -> Machine {
-    Machine {
-        registers: state.registers,
-        pc: state.pc,
-        clk: state.clk,
-        psp: state.psp_start,
-        storage_addr: state.storage_address,
-        cell_count: state.cells.len() as u64,
-        tape_count: state.tape.len() as u64,
-        output_count: state.output.len() as u64,
-    }
 }
 
 fn put<'a>(buffer: &mut [u64], values: impl IntoIterator<Item = &'a u64>) {

@@ -8,6 +8,7 @@ mod fenced;
 mod generate;
 mod guarded;
 mod lending;
+mod machine;
 mod model;
 mod options;
 mod play;

@@ -9,7 +9,8 @@ use oracle::outcome::Outcome;
 use oracle::stepper::{Mode, Stepper};
 
 use crate::counts::{StepCounts, Stepped};
-use crate::lending::{difference, left_plain, lend, machine_of, GREATEST};
+use crate::lending::{difference, left_plain, lend, GREATEST};
+use crate::machine::machine_of;
 use crate::model::{answer_of, Code, Model, CLOCK_LIMIT};
 
 /// How the single steps of a program came to their end.

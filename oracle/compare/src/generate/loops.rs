@@ -1,7 +1,8 @@
 //! Programs that run for thousands of steps: nested loops around calls, branches, arithmetic, memory and tape.
 //!
 //! To keep running, they keep some order: r0 to r2 hold field elements, r3 and r4 small numbers, r5 is for what is used at once, r6 to r8
-//! count loops, r9 points to the stack's frame. Cells 0 to 15 and those around the regions' ends hold field elements, 16 to 23 small numbers.
+//! count loops, r9 points to the stack's frame. Cells 0 to 15 and those around the regions' ends hold field elements, 16 to 23 small
+//! numbers.
 
 mod items;
 mod start;

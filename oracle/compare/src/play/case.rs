@@ -4,7 +4,7 @@ use ola::{Buffers, Lent, Machine, Marks, Program};
 use oracle::domain::{MOST_CELLS, MOST_OUTPUT, MOST_TAPE};
 use oracle::state::State;
 
-use crate::lending::machine_of;
+use crate::machine::machine_of;
 
 /// What stands in the places of a lent buffer that no line gives.
 const UNUSED: u64 = 0xEEEE_EEEE_EEEE_EEEE;
