@@ -12,10 +12,10 @@ use Rattle.entry.proofs.at_most.Statement.{statement}
 use Rattle.entry.proofs.at_most.Tie as tie
 
 abbrev Inv-loop : tie.InvT-loop
-Inv-loop numbers limit i₀ i = (i ≤ length numbers) × (every (λ n. leb n limit) numbers ≡ every (λ n. leb n limit) (drop i numbers))
+Inv-loop limit numbers i₀ i = (i ≤ length numbers) × (every (λ n. leb n limit) numbers ≡ every (λ n. leb n limit) (drop i numbers))
 
 abbrev μ-loop : tie.MeasureT-loop
-μ-loop numbers limit i₀ i = length numbers - i
+μ-loop limit numbers i₀ i = length numbers - i
 
 loop-holds : tie.Need-loop-holds Inv-loop μ-loop
 loop-holds c = (omega arith, refl)

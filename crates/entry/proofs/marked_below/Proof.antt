@@ -11,10 +11,10 @@ use Rattle.entry.proofs.marked_below.Statement.{statement}
 use Rattle.entry.proofs.marked_below.Tie as tie
 
 abbrev Inv-loop : tie.InvT-loop
-Inv-loop marks numbers i₀ i = (i ≤ length marks) × (markedBelow (marked marks) numbers ≡ markedBelow (marked (drop i marks)) (drop i numbers))
+Inv-loop numbers marks i₀ i = (i ≤ length marks) × (markedBelow (marked marks) numbers ≡ markedBelow (marked (drop i marks)) (drop i numbers))
 
 abbrev μ-loop : tie.MeasureT-loop
-μ-loop marks numbers i₀ i = length marks - i
+μ-loop numbers marks i₀ i = length marks - i
 
 loop-holds : tie.Need-loop-holds Inv-loop μ-loop
 loop-holds c = (omega arith, refl)

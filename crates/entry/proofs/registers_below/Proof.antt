@@ -34,7 +34,7 @@ returns c =
     let l = c .before .before .before .loop in
     sym
     (l .inv .1
-    ∙ registers-fail (c .before .before .before .before .args .t2) (l .i) 10 (l .bits) (omega arith) (omega arith) (sym (c .before .mark-fits .ensures) ∙ not-true _ (c .if1 .taken)))
+    ∙ registers-fail (c .before .before .before .before .args .t1) (l .i) 10 (l .bits) (omega arith) (omega arith) (sym (c .before .mark-fits .ensures) ∙ not-true _ (c .if1 .taken)))
 
 add-i : tie.Need-add-i Inv-loop μ-loop
 add-i c = search needs
@@ -47,13 +47,13 @@ loop-again c =
     let l = c .before .before .before .loop in (
       omega arith,
       l .inv .1
-          ∙ registers-more (c .before .before .before .before .args .t2) (l .i) 10 (l .bits) (omega arith) (omega arith) (sym (c .before .mark-fits .ensures) ∙ not-false _ (c .if1 .left)),
+          ∙ registers-more (c .before .before .before .before .args .t1) (l .i) 10 (l .bits) (omega arith) (omega arith) (sym (c .before .mark-fits .ensures) ∙ not-false _ (c .if1 .left)),
     )
 
 returns-2 : tie.Need-returns-2 Inv-loop μ-loop
 returns-2 c =
     let l = c .before .loop in
-    sym (l .inv .1 ∙ marked-end (c .before .before .args .t2) (l .i) (lowBits (10 - l .i) (l .bits)) (omega arith))
+    sym (l .inv .1 ∙ marked-end (c .before .before .args .t1) (l .i) (lowBits (10 - l .i) (l .bits)) (omega arith))
 
 pub registers-below-spec : {M : Type 1} → statement M
 registers-below-spec =
