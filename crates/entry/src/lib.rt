@@ -14,6 +14,7 @@ ghost use lib.Dec.{ltb, leb, eqb};
 ghost use lib.ListN.{take};
 ghost use Rattle.rules.specs.Numbers.{p};
 ghost use Rattle.rules.specs.Entry.{every, risingFrom, lowBits, markedBelow, plainEntry, marksEntry};
+ghost use Rattle.rules.specs.Handed.{snapshot, guardedSnapshot};
 
 // The most cells, and the most values of tape or output.
 pub const CELL_LIMIT: usize = 2048;
@@ -119,13 +120,7 @@ pub fn accepts(
     output: &[u64],
 ) -> bool
     ensures { λ r. ⌜ r
-        ≡ plainEntry (record {
-          machine = machine;
-          addresses = now (addresses .entry);
-          numbers = now (numbers .entry);
-          tape = now (tape .entry);
-          output = now (output .entry);
-        }) ⌝ }
+        ≡ plainEntry (snapshot machine (now (addresses .entry)) (now (numbers .entry)) (now (tape .entry)) (now (output .entry))) ⌝ }
 {
     if clock::CLOCK_END <= machine.clk {
         return false;
@@ -166,17 +161,7 @@ pub fn accepts_marks(
     marks: &[u64],
 ) -> bool
     ensures { λ r. ⌜ ((tape output : List ℕ) → r
-        ≡ marksEntry (record {
-          plain = record {
-            machine = machine;
-            addresses = now (addresses .entry);
-            numbers = now (numbers .entry);
-            tape = tape;
-            output = output;
-          };
-          marks = now (marks .entry);
-          extras = extras;
-        })) ⌝ }
+        ≡ marksEntry (guardedSnapshot machine extras (now (addresses .entry)) (now (numbers .entry)) (now (marks .entry)) tape output)) ⌝ }
 {
     if marks.len() != addresses.len() {
         return false;

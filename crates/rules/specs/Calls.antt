@@ -9,7 +9,7 @@ use Rattle.rules.specs.Results.{Result, refuse, pass}
 use Rattle.rules.specs.Frames.{loadWords}
 use Rattle.rules.specs.Text.{Job, loadText, loadBudgetText}
 use Rattle.rules.specs.Cells.{numberCells, markCells}
-use Rattle.rules.specs.Step.{State, Ran, run}
+use Rattle.rules.specs.Step.{State, RunEnd, run}
 use Rattle.rules.specs.Guarded.{GuardedState, guardedRun}
 use Rattle.rules.specs.Answers.{Meaning, meaning, refusalMeaning}
 use Rattle.rules.specs.Entry.{Snapshot, GuardedSnapshot, plainEntry, guardedEntry, environment, stateOf, guardedStateOf, snapshotAfter, guardedSnapshotAfter}
@@ -24,16 +24,16 @@ pub record Called (S : Type 0) : Type 0 where
 abbrev pub refusedCall : {S : Type 0} → Refusal → S → Called S
 refusedCall f s = record { answer = refusalMeaning f; steps = 0; left = s }
 
-abbrev pub plainRunOf : List Instruction → ℕ → Snapshot → Ran (State numberCells)
+abbrev pub plainRunOf : List Instruction → ℕ → Snapshot → RunEnd (State numberCells)
 plainRunOf program budget s = run numberCells (environment program s) budget (stateOf s)
 
-abbrev pub guardedRunOf : List Instruction → ℕ → GuardedSnapshot → Ran (GuardedState numberCells markCells)
+abbrev pub guardedRunOf : List Instruction → ℕ → GuardedSnapshot → RunEnd (GuardedState numberCells markCells)
 guardedRunOf program budget g = guardedRun numberCells markCells (environment program (g .plain)) budget (guardedStateOf g)
 
-abbrev pub plainAnswered : Snapshot → Ran (State numberCells) → Called Snapshot
+abbrev pub plainAnswered : Snapshot → RunEnd (State numberCells) → Called Snapshot
 plainAnswered s r = record { answer = meaning (r .answer); steps = r .steps; left = snapshotAfter s (r .state) }
 
-abbrev pub guardedAnswered : GuardedSnapshot → Ran (GuardedState numberCells markCells) → Called GuardedSnapshot
+abbrev pub guardedAnswered : GuardedSnapshot → RunEnd (GuardedState numberCells markCells) → Called GuardedSnapshot
 guardedAnswered g r = record { answer = meaning (r .answer); steps = r .steps; left = guardedSnapshotAfter g (r .state) }
 
 -- of a program as loaded

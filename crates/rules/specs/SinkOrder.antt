@@ -18,7 +18,7 @@ r1 = Register 1
 abbrev r9 : OlaOperand
 r9 = Register 9
 
--- R1, R9 guarded
+-- R1, R9 marked
 abbrev markedR1 : ℕ → Start
 markedR1 n = withMarkedR 1 n start
 
@@ -80,11 +80,11 @@ OperandsBeforeSinksHold = Hold (rowsOf operandsBeforeSinks)
 
 -- 18 before the operation, the reading, the tape, the store and the capacity
 
--- op0 guarded, op1 = p: 18 before the operation's 7
+-- op0 marked, op1 = p: 18 before the operation's 7
 abbrev beforeField : OlaOpcode → List Pair
 beforeField o = sinkBefore 7 (frame o r1 (imm 0xFFFFFFFF00000001) r0) (markedR1 0) ∷ []
 
--- op0, and op1, a guarded 0xFFFFFFFF: 18 before 8
+-- op0, and op1, a marked 0xFFFFFFFF: 18 before 8
 abbrev beforeSmall : OlaOpcode → List Pair
 beforeSmall o =
     sinkBefore 8 (frame o r1 (imm 0) r0) (markedR1 0xFFFFFFFF) ∷ (sinkBefore 8 (frame o (imm 0) r1 r0) (markedR1 0xFFFFFFFF) ∷ [])
@@ -142,7 +142,7 @@ SinksBeforeRestHold = Hold (rowsOf sinksBeforeRest)
 
 -- After all reads are found
 
--- four cells from 0 on, the last one guarded
+-- four cells from 0 on, the last one marked
 abbrev markedSpan : Start
 markedSpan = withCell 0 5 (withCell 1 6 (withCell 2 7 (withMarkedCell 3 8 start)))
 

@@ -16,7 +16,7 @@ use Rattle.rules.specs.Field.{fieldAdd, fieldMul}
 use Rattle.rules.specs.Memory.{Content, absent, present, Memory}
 use Rattle.rules.specs.Opcodes.{Class, addition, multiplication, equality, small, complement, move, assert, rangeCheck, jump, conditionalJump, call, return, load, store, tapeLoad, tapeStore, contractCall, end, uncovered}
 use Rattle.rules.specs.Operands.{binaryLength, instructionAt, fetch, Want, ignored, lacking, value, later, register, target, inField, valueOf, targetOf, absence, operand, Operands, operands}
-use Rattle.rules.specs.Step.{Environment, State, Next, Finish, goesOn, ends, calls, delegates, Ran, onClock, onFinish, r9, contentValue, read, readBelow, readMany, readSpan, storeMany, operate, capacity, step, onStep, run}
+use Rattle.rules.specs.Step.{Environment, State, Next, Finish, goesOn, ends, calls, delegates, RunEnd, onClock, onFinish, r9, contentValue, read, readBelow, readMany, readSpan, storeMany, operate, capacity, step, onStep, run}
 use Rattle.rules.specs.Guarded.{MarkState, GuardedState, GuardedNext, guardedRest, guardedStep, onGuardedStep, guardedRun}
 use Rattle.rules.specs.Answers.{Meaning, outcome, refusal, refusalMeaning, meaning}
 use Rattle.rules.proofs.EntryRefusals.Refusing.{Refusing, refusing-refused, passed, RefusingGuarded, refused-guarded, sink-guarded, passed-guarded, refusing-require, refusing-choose, refusing-bind, refusing-after, refusing-guard}
@@ -184,12 +184,12 @@ module _ (numberMemory markMemory : Memory ℕ) where
 -- Runs
 
 module _ {S : Type 0} where
-  clock-past : (b : Bool) (s : S) (r : Ran S) → Past (r .answer) → Past (onClock b s r .answer)
+  clock-past : (b : Bool) (s : S) (r : RunEnd S) → Past (r .answer) → Past (onClock b s r .answer)
   unfolding meaning refusalMeaning
   clock-past true s r h = h
   clock-past false s r h = refl
 
-  finish-past : (f : Finish) (clk : ℕ) (s : S) (k : S → Ran S) → Past (k s .answer) → Past (onFinish f clk s k .answer)
+  finish-past : (f : Finish) (clk : ℕ) (s : S) (k : S → RunEnd S) → Past (k s .answer) → Past (onFinish f clk s k .answer)
   unfolding meaning
   finish-past goesOn clk s k h = clock-past (ltb clk clockEnd) s (k s) h
   finish-past ends clk s k h = refl
@@ -197,7 +197,7 @@ module _ {S : Type 0} where
   finish-past (delegates vs) clk s k h = refl
 
 module _ (numberMemory markMemory : Memory ℕ) (e : Environment) where
-  on-step-past : (s : State numberMemory) {r : Result (Next numberMemory)} (k : State numberMemory → Ran (State numberMemory)) → Refusing AtStep r
+  on-step-past : (s : State numberMemory) {r : Result (Next numberMemory)} (k : State numberMemory → RunEnd (State numberMemory)) → Refusing AtStep r
       → ((t : State numberMemory) → Past (k t .answer)) → Past (onStep numberMemory s r k .answer)
   unfolding meaning
   on-step-past s k (refusing-refused h) q = h
@@ -208,7 +208,7 @@ module _ (numberMemory markMemory : Memory ℕ) (e : Environment) where
   run-past zero s = refl
   run-past (suc budget) s = on-step-past s (run numberMemory e budget) (stepped numberMemory markMemory e s) (run-past budget)
 
-  on-guarded-step-past : (q : GuardedState numberMemory markMemory) {r : GuardedResult (GuardedNext numberMemory markMemory)} (k : GuardedState numberMemory markMemory → Ran (GuardedState numberMemory markMemory)) → RefusingGuarded AtStep r
+  on-guarded-step-past : (q : GuardedState numberMemory markMemory) {r : GuardedResult (GuardedNext numberMemory markMemory)} (k : GuardedState numberMemory markMemory → RunEnd (GuardedState numberMemory markMemory)) → RefusingGuarded AtStep r
       → ((t : GuardedState numberMemory markMemory) → Past (k t .answer)) → Past (onGuardedStep numberMemory markMemory q r k .answer)
   unfolding meaning
   on-guarded-step-past q k (refused-guarded h) z = h

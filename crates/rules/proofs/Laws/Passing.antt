@@ -6,7 +6,7 @@ use lib.Dec.{ltb}
 use Rattle.rules.specs.declared.Refusal.{Refusal}
 use Rattle.rules.specs.Numbers.{clockEnd}
 use Rattle.rules.specs.Results.{Result, refuse, pass, require, bind, GuardedResult, refuses, sink, passes, after, guard}
-use Rattle.rules.specs.Step.{Finish, goesOn, ends, calls, delegates, Ran, onClock, onFinish}
+use Rattle.rules.specs.Step.{Finish, goesOn, ends, calls, delegates, RunEnd, onClock, onFinish}
 
 pub data Passing {A : Type 0} (P : A → Type 0) : Result A → Type 0 where
   passing-refused : {f : Refusal} → Passing P (refuse f)
@@ -70,11 +70,11 @@ passing-guard false h = h
 
 -- a property of the state that an accepted step leaves, and of what the rest of the run leaves, holds of the whole run's end
 module _ {S : Type 0} (P : S → Type 0) where
-  clock-keeps : (b : Bool) (s : S) (r : Ran S) → P s → P (r .state) → P (onClock b s r .state)
+  clock-keeps : (b : Bool) (s : S) (r : RunEnd S) → P s → P (r .state) → P (onClock b s r .state)
   clock-keeps true s r h k = k
   clock-keeps false s r h k = h
 
-  pub finish-keeps : (f : Finish) (clk : ℕ) (s : S) (k : S → Ran S) → P s → P (k s .state) → P (onFinish f clk s k .state)
+  pub finish-keeps : (f : Finish) (clk : ℕ) (s : S) (k : S → RunEnd S) → P s → P (k s .state) → P (onFinish f clk s k .state)
   finish-keeps goesOn clk s k h q = clock-keeps (ltb clk clockEnd) s (k s) h q
   finish-keeps ends clk s k h q = h
   finish-keeps (calls vs) clk s k h q = h

@@ -6,7 +6,7 @@ use lib.Dec.{ltb}
 use Rattle.rules.specs.declared.Refusal.{Refusal}
 use Rattle.rules.specs.Numbers.{clockEnd}
 use Rattle.rules.specs.Results.{Result, refuse, pass, require, bind, GuardedResult, after, guard}
-use Rattle.rules.specs.Step.{Finish, goesOn, ends, calls, delegates, Ran, onClock, onFinish}
+use Rattle.rules.specs.Step.{Finish, goesOn, ends, calls, delegates, RunEnd, onClock, onFinish}
 use Rattle.rules.specs.Relations.{Both, both-refused, passed, BothGuarded, refused-alike, sink-alike, BothRan}
 
 -- Results
@@ -73,11 +73,11 @@ both-guard {R = R} {b = b} {r = r} {q = q} e h = subst (λ c. BothGuarded R (gua
 -- Runs: what follows an accepted step that leaves related states, the same clk and the same way to leave the run
 
 module _ {S T : Type 0} (R : S → T → Type 0) where
-  both-clock : (b : Bool) (s : S) (t : T) (r : Ran S) (q : Ran T) → R s t → BothRan R r q → BothRan R (onClock b s r) (onClock b t q)
+  both-clock : (b : Bool) (s : S) (t : T) (r : RunEnd S) (q : RunEnd T) → R s t → BothRan R r q → BothRan R (onClock b s r) (onClock b t q)
   both-clock true s t r q h k = record { answer = k .answer; steps = ap suc (k .steps); state = k .state }
   both-clock false s t r q h k = record { answer = refl; steps = refl; state = h }
 
-  pub both-finish : {f g : Finish} {m n : ℕ} (s : S) (t : T) (k : S → Ran S) (l : T → Ran T) → f ≡ g → m ≡ n → R s t → BothRan R (k s) (l t)
+  pub both-finish : {f g : Finish} {m n : ℕ} (s : S) (t : T) (k : S → RunEnd S) (l : T → RunEnd T) → f ≡ g → m ≡ n → R s t → BothRan R (k s) (l t)
       → BothRan R (onFinish f m s k) (onFinish g n t l)
   both-finish {f} {g} {m} {n} s t k l d e h r =
       subst (λ g. BothRan R (onFinish f m s k) (onFinish g n t l)) d

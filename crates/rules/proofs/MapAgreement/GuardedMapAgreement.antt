@@ -8,7 +8,7 @@ use Rattle.rules.specs.Cells.{Cells, numberCells, markCells}
 use Rattle.rules.specs.PlainMap.{PlainMap, numberMap, markMap}
 use Rattle.rules.specs.Opcodes.{Class, addition, multiplication, equality, small, complement, move, assert, rangeCheck, jump, conditionalJump, call, return, load, store, tapeLoad, tapeStore, contractCall, end, uncovered, classOf}
 use Rattle.rules.specs.Operands.{Operands}
-use Rattle.rules.specs.Step.{Environment, State, r9, Ran}
+use Rattle.rules.specs.Step.{Environment, State, r9, RunEnd}
 use Rattle.rules.specs.Guarded.{MarkState, contentMark, cellMark, spanMark, readSink, cleanMany, marksAfter, GuardedState, GuardedNext, guardedRest, guardedStep, onGuardedStep, guardedRun}
 use Rattle.rules.specs.Relations.{BothGuarded, refused-alike, sink-alike, passed-alike, BothRan}
 use Rattle.rules.specs.MapAgreement.{withMap, mapGuardedState, SameMemory, SameMarks, SameGuardedState, SameGuardedNext, GuardedRising, MapAgreement}
@@ -117,7 +117,7 @@ left : {n : GuardedNext numberCells markCells} {m : GuardedNext numberMap markMa
 left a = record { plain = a .next .state; marks = a .marks }
 
 same-on-step : {q : GuardedState numberCells markCells} {r : GuardedState numberMap markMap} {x : GuardedResult (GuardedNext numberCells markCells)} {y : GuardedResult (GuardedNext numberMap markMap)}
-    (k : GuardedState numberCells markCells → Ran (GuardedState numberCells markCells)) (l : GuardedState numberMap markMap → Ran (GuardedState numberMap markMap))
+    (k : GuardedState numberCells markCells → RunEnd (GuardedState numberCells markCells)) (l : GuardedState numberMap markMap → RunEnd (GuardedState numberMap markMap))
     → SameGuardedState q r → BothGuarded SameGuardedNext x y
     → ((q : GuardedState numberCells markCells) (r : GuardedState numberMap markMap) → SameGuardedState q r → BothRan SameGuardedState (k q) (l r))
     → BothRan SameGuardedState (onGuardedStep numberCells markCells q x k) (onGuardedStep numberMap markMap r y l)

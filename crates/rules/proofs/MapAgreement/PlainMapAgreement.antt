@@ -12,7 +12,7 @@ use Rattle.rules.specs.Cells.{Cells, put, Rising, numberCells}
 use Rattle.rules.specs.PlainMap.{PlainMap, mapPut, numberMap}
 use Rattle.rules.specs.Opcodes.{Class, addition, multiplication, equality, small, complement, move, assert, rangeCheck, jump, conditionalJump, call, return, load, store, tapeLoad, tapeStore, contractCall, end, uncovered, classOf}
 use Rattle.rules.specs.Operands.{Operands}
-use Rattle.rules.specs.Step.{Environment, State, Next, contentValue, r9, read, readBelow, readMany, readSpan, storeMany, operate, fits, capacity, step, Ran, onStep, run}
+use Rattle.rules.specs.Step.{Environment, State, Next, contentValue, r9, read, readBelow, readMany, readSpan, storeMany, operate, fits, capacity, step, RunEnd, onStep, run}
 use Rattle.rules.specs.Relations.{Both, both-refused, passed, BothRan}
 use Rattle.rules.specs.MapAgreement.{mapOf, withMap, SameMemory, SameState, SameNext}
 use Rattle.rules.proofs.Laws.CellLaws.{get-put, rising-put, count-put}
@@ -131,7 +131,7 @@ pub same-step : (e : Environment) {s : State numberCells} {t : State numberMap} 
 same-step e {s} {t} h = subst (λ t. Both SameNext (step numberCells e s) (step numberMap e t)) (with-same h) (same-step-with e s (t .cells) (h .cells))
 
 same-on-step : {s : State numberCells} {t : State numberMap} {x : Result (Next numberCells)} {y : Result (Next numberMap)}
-    (k : State numberCells → Ran (State numberCells)) (l : State numberMap → Ran (State numberMap)) → SameState s t → Both SameNext x y
+    (k : State numberCells → RunEnd (State numberCells)) (l : State numberMap → RunEnd (State numberMap)) → SameState s t → Both SameNext x y
     → ((s : State numberCells) (t : State numberMap) → SameState s t → BothRan SameState (k s) (l t))
     → BothRan SameState (onStep numberCells s x k) (onStep numberMap t y l)
 same-on-step k l h both-refused q = record { answer = refl; steps = refl; state = h }

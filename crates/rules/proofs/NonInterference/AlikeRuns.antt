@@ -8,7 +8,7 @@ use Rattle.rules.specs.Results.{GuardedResult, passes, after, guard}
 use Rattle.rules.specs.Cells.{count, numberCells, markCells}
 use Rattle.rules.specs.Opcodes.{Class, addition, multiplication, equality, small, complement, move, assert, rangeCheck, jump, conditionalJump, call, return, load, store, tapeLoad, tapeStore, contractCall, end, uncovered, classOf}
 use Rattle.rules.specs.Operands.{fetch, wantsOf, Operands, operands}
-use Rattle.rules.specs.Step.{Environment, State, Next, fits, capacity, Ran}
+use Rattle.rules.specs.Step.{Environment, State, Next, fits, capacity, RunEnd}
 use Rattle.rules.specs.Guarded.{operandMark, sinksOf, operandSink, MarkState, readSink, marksAfter, GuardedState, GuardedNext, guardedRest, guardedStep, onGuardedStep, guardedRun}
 use Rattle.rules.specs.Relations.{passed, BothGuarded, refused-alike, sink-alike, passed-alike, BothRan}
 use Rattle.rules.proofs.Laws.Relational.{both-equal, both-require, both-after, both-finish}
@@ -158,7 +158,7 @@ step-agrees e t {s} {u} n =
 abbrev at : State numberCells → MarkState markCells → GuardedState numberCells markCells
 at s t = record { plain = s; marks = t }
 
-go-on : (n : ℕ) (q r : GuardedState numberCells markCells) (k : GuardedState numberCells markCells → Ran (GuardedState numberCells markCells)) → GuardedRelated q r
+go-on : (n : ℕ) (q r : GuardedState numberCells markCells) (k : GuardedState numberCells markCells → RunEnd (GuardedState numberCells markCells)) → GuardedRelated q r
     → ((q r : GuardedState numberCells markCells) → GuardedRelated q r → BothRan GuardedRelated (k q) (k r))
     → {x y : GuardedResult (GuardedNext numberCells markCells)} → BothGuarded GuardedNextRelated x y
     → BothRan GuardedRelated (onGuardedStep numberCells markCells q x k) (onGuardedStep numberCells markCells r y k)

@@ -12,7 +12,7 @@ use Rattle.rules.specs.Results.{Result, refuse, pass, require, bind, Gua
 use Rattle.rules.specs.Memory.{Memory}
 use Rattle.rules.specs.Opcodes.{classOf}
 use Rattle.rules.specs.Operands.{fetch, operands}
-use Rattle.rules.specs.Step.{Environment, State, Finish, goesOn, ends, calls, delegates, Next, operate, fits, step, Ran, afterStep, onClock, onFinish, onStep, run}
+use Rattle.rules.specs.Step.{Environment, State, Finish, goesOn, ends, calls, delegates, Next, operate, fits, step, RunEnd, afterStep, onClock, onFinish, onStep, run}
 use Rattle.rules.specs.Guarded.{operandSink, MarkState, readSink, marksAfter, GuardedState, GuardedNext, guardedRest, guardedStep, onGuardedStep, guardedRun}
 
 -- refusal 18 is no other answer
@@ -58,23 +58,23 @@ module _ (numberMemory markMemory : Memory ℕ) where
 
   -- Runs
 
-  abbrev pub plainPart : Ran (GuardedState numberMemory markMemory) → Ran (State numberMemory)
+  abbrev pub plainPart : RunEnd (GuardedState numberMemory markMemory) → RunEnd (State numberMemory)
   plainPart r = record { answer = r .answer; steps = r .steps; state = r .state .plain }
 
-  abbrev pub paused : ℕ → State numberMemory → Ran (State numberMemory)
+  abbrev pub paused : ℕ → State numberMemory → RunEnd (State numberMemory)
   paused k s = record { answer = Paused; steps = k; state = s }
 
   -- of a guarded run with a budget n, the plain run with that budget, and the plain run with any budget
-  pub record RunBeside (n : ℕ) (r : Ran (GuardedState numberMemory markMemory)) (whole : Ran (State numberMemory)) (cut : ℕ → Ran (State numberMemory)) : Type 0 where
+  pub record RunBeside (n : ℕ) (r : RunEnd (GuardedState numberMemory markMemory)) (whole : RunEnd (State numberMemory)) (cut : ℕ → RunEnd (State numberMemory)) : Type 0 where
     pub transparent : (r .answer ≡ MarkedSink → ⊥) → plainPart r ≡ whole
     pub early : r .answer ≡ MarkedSink → (r .steps < n) × (cut (r .steps) ≡ paused (r .steps) (r .state .plain))
 
   -- where the answer is none of 18
-  same-run : (n : ℕ) {r : Ran (GuardedState numberMemory markMemory)} (cut : ℕ → Ran (State numberMemory)) → (r .answer ≡ MarkedSink → ⊥) → RunBeside n r (plainPart r) cut
+  same-run : (n : ℕ) {r : RunEnd (GuardedState numberMemory markMemory)} (cut : ℕ → RunEnd (State numberMemory)) → (r .answer ≡ MarkedSink → ⊥) → RunBeside n r (plainPart r) cut
   same-run n cut h = record { transparent = λ _. refl; early = λ a. absurd (h a) }
 
   -- the plain run with budget k, its first step decided
-  abbrev cutAt : Environment → State numberMemory → Result (Next numberMemory) → ℕ → Ran (State numberMemory)
+  abbrev cutAt : Environment → State numberMemory → Result (Next numberMemory) → ℕ → RunEnd (State numberMemory)
   cutAt e s y zero = paused zero s
   cutAt e s y (suc k) = onStep numberMemory s y (run numberMemory e k)
 
@@ -83,7 +83,7 @@ module _ (numberMemory markMemory : Memory ℕ) where
   cut-run e s zero = refl
   cut-run e s (suc k) = refl
 
-  clock-case : (e : Environment) (n : ℕ) (q : GuardedState numberMemory markMemory) (b : Bool) (cut : ℕ → Ran (State numberMemory))
+  clock-case : (e : Environment) (n : ℕ) (q : GuardedState numberMemory markMemory) (b : Bool) (cut : ℕ → RunEnd (State numberMemory))
       → ((k : ℕ) → cut (suc k) ≡ onClock b (q .plain) (run numberMemory e k (q .plain)))
       → RunBeside n (guardedRun numberMemory markMemory e n q) (run numberMemory e n (q .plain)) (λ k. run numberMemory e k (q .plain))
       → RunBeside (suc n) (onClock b q (guardedRun numberMemory markMemory e n q)) (onClock b (q .plain) (run numberMemory e n (q .plain))) cut

@@ -12,7 +12,7 @@ use Rattle.rules.specs.Results.{Result, refuse, pass}
 use Rattle.rules.specs.Frames.{loadWords}
 use Rattle.rules.specs.Text.{loadText, loadBudgetText}
 use Rattle.rules.specs.Cells.{zipped, numberCells, markCells}
-use Rattle.rules.specs.Step.{Ran}
+use Rattle.rules.specs.Step.{RunEnd}
 use Rattle.rules.specs.Guarded.{GuardedState, guardedRun}
 use Rattle.rules.specs.Answers.{Meaning, meaning}
 use Rattle.rules.specs.Entry.{GuardedSnapshot, lowBits, all, plainEntry, marksEntry, guardedEntry, environment, stateOf, guardedStateOf, snapshotAfter, guardedSnapshotAfter}
@@ -48,7 +48,7 @@ same-environment program g h al = λ j.
 same-marks : (g h : GuardedSnapshot) → Alike g h → guardedStateOf g .marks ≡ guardedStateOf h .marks
 same-marks g h al = λ j. record { registers = lowBits 10 (al .registerMarks j); cells = zipped (al .addresses j) (al .marks j) }
 
-answers-same : (g h : GuardedSnapshot) → Alike g h → (r u : Ran (GuardedState numberCells markCells)) → BothRan GuardedRelated r u
+answers-same : (g h : GuardedSnapshot) → Alike g h → (r u : RunEnd (GuardedState numberCells markCells)) → BothRan GuardedRelated r u
     → SameCalls (guardedAnswered g r) (guardedAnswered h u)
 answers-same g h al r u w =
     record {

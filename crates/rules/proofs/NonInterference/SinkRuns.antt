@@ -13,7 +13,7 @@ use Rattle.rules.specs.Results.{Result, refuse, pass, GuardedResult, ref
 use Rattle.rules.specs.Cells.{numberCells, markCells}
 use Rattle.rules.specs.Opcodes.{Class, addition, multiplication, equality, small, complement, move, assert, rangeCheck, jump, conditionalJump, call, return, load, store, tapeLoad, tapeStore, contractCall, end, uncovered, classOf}
 use Rattle.rules.specs.Operands.{Operands}
-use Rattle.rules.specs.Step.{Environment, State, Finish, goesOn, ends, calls, delegates, Next, step, Ran, afterStep, onClock, onFinish}
+use Rattle.rules.specs.Step.{Environment, State, Finish, goesOn, ends, calls, delegates, Next, step, RunEnd, afterStep, onClock, onFinish}
 use Rattle.rules.specs.Guarded.{MarkState, marksAfter, GuardedState, GuardedNext, guardedRest, guardedStep, onGuardedStep, guardedRun}
 use Rattle.rules.specs.MarkRules.{Place, Marking, MarkedAfter}
 use Rattle.rules.specs.SinkRules.{InstructionRead, ReachesSink, AcceptedStep, Comes, start, onward}
@@ -172,10 +172,10 @@ module _ (e : Environment) (inRange : AllInRange (e .program)) where
 
   -- Whole runs
 
-  abbrev pub sunk : ℕ → GuardedState numberCells markCells → Ran (GuardedState numberCells markCells)
+  abbrev pub sunk : ℕ → GuardedState numberCells markCells → RunEnd (GuardedState numberCells markCells)
   sunk k q = record { answer = MarkedSink; steps = k; state = q }
 
-  on-clock : (b : Bool) (q : GuardedState numberCells markCells) {r u : Ran (GuardedState numberCells markCells)} → b ≡ true → r ≡ u → onClock b q r ≡ afterStep u
+  on-clock : (b : Bool) (q : GuardedState numberCells markCells) {r u : RunEnd (GuardedState numberCells markCells)} → b ≡ true → r ≡ u → onClock b q r ≡ afterStep u
   on-clock true q h k = ap afterStep k
   on-clock false q h k = absurd (let z : _≡_ {A = ℕ} 0 1 = cc in omega arith)
 
@@ -203,7 +203,7 @@ module _ (e : Environment) (inRange : AllInRange (e .program)) where
             ∙ on-clock (ltb (s′ .clk) clockEnd) (at s′ (w .marks)) (lt-ltb (s′ .clk) clockEnd (a .clock)) (i .runs);
       }
 
-  pub record Came (n : ℕ) (q : GuardedState numberCells markCells) (r : Ran (GuardedState numberCells markCells)) : Type 0 where
+  pub record Came (n : ℕ) (q : GuardedState numberCells markCells) (r : RunEnd (GuardedState numberCells markCells)) : Type 0 where
     pub below : r .steps < n
     pub comes : Comes e (q .plain) (markingOf (q .marks)) (r .steps) (r .state .plain) (markingOf (r .state .marks))
     pub reaches : ReachesSink e (r .state .plain) (markingOf (r .state .marks))

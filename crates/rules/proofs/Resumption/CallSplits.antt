@@ -12,7 +12,7 @@ use Rattle.rules.specs.declared.Answer.the-variants.{Paused}
 use Rattle.rules.specs.Numbers.{clockEnd, choose}
 use Rattle.rules.specs.Results.{Result, refuse, pass}
 use Rattle.rules.specs.Cells.{Cells, count, addresses, contents, numberCells, markCells}
-use Rattle.rules.specs.Step.{Environment, State, Ran, overlay, run}
+use Rattle.rules.specs.Step.{Environment, State, RunEnd, overlay, run}
 use Rattle.rules.specs.Guarded.{GuardedState, guardedRun}
 use Rattle.rules.specs.Answers.{outcome, meaning}
 use Rattle.rules.specs.Entry.{Snapshot, GuardedSnapshot, wordOfBits, plainEntry, guardedEntry, environment, stateOf, guardedStateOf, snapshotAfter, guardedSnapshotAfter}
@@ -70,7 +70,7 @@ module _ (program : List Instruction) (s : Snapshot) (ten : length (s .machine .
   abbrev here : Environment
   here = environment program s
 
-  abbrev first : Ran (State numberCells)
+  abbrev first : RunEnd (State numberCells)
   first = plainRunOf program m s
 
   sound : Sound here (first .state)
@@ -89,7 +89,7 @@ module _ (program : List Instruction) (s : Snapshot) (ten : length (s .machine .
   second : plainRunOf program n (snapshotAfter s (first .state)) ≡ run numberCells here n (resumed (first .state))
   second = λ i. run numberCells (again .environment i) n (again .state i)
 
-  joined-answers : (r q : Ran (State numberCells)) → Grown (first .state) (r .state) → BothRan (Behind (first .state .written)) r q
+  joined-answers : (r q : RunEnd (State numberCells)) → Grown (first .state) (r .state) → BothRan (Behind (first .state .written)) r q
       → plainAnswered s (joined first r) ≡ afterSteps (first .steps) (plainAnswered (snapshotAfter s (first .state)) q)
   joined-answers r q g b =
       λ i. record { answer = meaning (b .answer i); steps = first .steps + b .steps i; left = left-twice s g (b .state) i }
@@ -127,7 +127,7 @@ module _ (program : List Instruction) (g : GuardedSnapshot) (ten : length (g .pl
   abbrev there : Environment
   there = environment program (g .plain)
 
-  abbrev guarded-first : Ran (GuardedState numberCells markCells)
+  abbrev guarded-first : RunEnd (GuardedState numberCells markCells)
   guarded-first = guardedRunOf program m g
 
   guarded-sound : GuardedSound there (guarded-first .state)
@@ -146,7 +146,7 @@ module _ (program : List Instruction) (g : GuardedSnapshot) (ten : length (g .pl
   guarded-second : guardedRunOf program n (guardedSnapshotAfter g (guarded-first .state)) ≡ guardedRun numberCells markCells there n (guardedResumed (guarded-first .state))
   guarded-second = λ i. guardedRun numberCells markCells (guarded-again .plain .environment i) n (guarded-again .state i)
 
-  guarded-joined : (r q : Ran (GuardedState numberCells markCells)) → Grown (guarded-first .state .plain) (r .state .plain)
+  guarded-joined : (r q : RunEnd (GuardedState numberCells markCells)) → Grown (guarded-first .state .plain) (r .state .plain)
       → count (guarded-first .state .marks .cells) ≤ count (r .state .marks .cells)
       → BothRan (GuardedBehind (guarded-first .state .plain .written)) r q
       → guardedAnswered g (joined guarded-first r) ≡ afterSteps (guarded-first .steps) (guardedAnswered (guardedSnapshotAfter g (guarded-first .state)) q)

@@ -12,7 +12,7 @@ use Rattle.rules.specs.Cells.{Cells, get, put, count, Rising, numberCell
 use Rattle.rules.specs.PlainMap.{isPresent}
 use Rattle.rules.specs.Opcodes.{Class, addition, multiplication, equality, small, complement, move, assert, rangeCheck, jump, conditionalJump, call, return, load, store, tapeLoad, tapeStore, contractCall, end, uncovered, classOf}
 use Rattle.rules.specs.Operands.{Operands}
-use Rattle.rules.specs.Step.{Environment, State, Next, storeMany, operate, capacity, step, Ran, onStep, run}
+use Rattle.rules.specs.Step.{Environment, State, Next, storeMany, operate, capacity, step, RunEnd, onStep, run}
 use Rattle.rules.specs.Guarded.{GuardedState, GuardedNext, guardedRest, guardedStep, onGuardedStep, guardedRun}
 use Rattle.rules.specs.Soundness.{Sound}
 use Rattle.rules.proofs.Laws.CellLaws.{rising-put, count-put}
@@ -95,7 +95,7 @@ step-grows e s h =
     passing-bind _ (passing-both (operate-keeps e i s o h (classOf (i .opcode))) (operate-grows e i s o (h .cells .rising) (classOf (i .opcode)))) λ n k.
     passing-both (capacity-sound e n (k .0)) (capacity-grows e s n (k .1))
 
-on-step-grows : (e : Environment) (s : State numberCells) {x : Result (Next numberCells)} (k : State numberCells → Ran (State numberCells))
+on-step-grows : (e : Environment) (s : State numberCells) {x : Result (Next numberCells)} (k : State numberCells → RunEnd (State numberCells))
     → Passing (λ n. SoundGrown e s (n .state)) x → ((t : State numberCells) → Sound e t → Grown t (k t .state)) → Grown s (onStep numberCells s x k .state)
 on-step-grows e s k passing-refused g = grown-same s
 on-step-grows e s k (passed {a = n} h) g =
@@ -119,7 +119,7 @@ guarded-step-grows e q h =
     (passing-after _ (passing-both (capacity-sound e n (k .0)) (capacity-grows e s n (k .1))) λ n l. passed-guarded l))
 
 on-guarded-step-grows : (e : Environment) (q : GuardedState numberCells markCells) {x : GuardedResult (GuardedNext numberCells markCells)}
-    (k : GuardedState numberCells markCells → Ran (GuardedState numberCells markCells)) → PassingGuarded (λ n. SoundGrown e (q .plain) (n .next .state)) x
+    (k : GuardedState numberCells markCells → RunEnd (GuardedState numberCells markCells)) → PassingGuarded (λ n. SoundGrown e (q .plain) (n .next .state)) x
     → ((r : GuardedState numberCells markCells) → Sound e (r .plain) → Grown (r .plain) (k r .state .plain))
     → Grown (q .plain) (onGuardedStep numberCells markCells q x k .state .plain)
 on-guarded-step-grows e q k refused-guarded g = grown-same (q .plain)

@@ -12,11 +12,11 @@ use Rattle.rules.specs.declared.Answer.the-variants.{Ended, Calling, Del
 use Rattle.rules.specs.Numbers.{clockEnd}
 use Rattle.rules.specs.Results.{Result, refuse, pass, GuardedResult, refuses, sink, passes}
 use Rattle.rules.specs.Memory.{Memory}
-use Rattle.rules.specs.Step.{Environment, State, Next, Finish, goesOn, ends, calls, delegates, Ran, afterStep, onClock, onFinish, step, onStep, run}
+use Rattle.rules.specs.Step.{Environment, State, Next, Finish, goesOn, ends, calls, delegates, RunEnd, afterStep, onClock, onFinish, step, onStep, run}
 use Rattle.rules.specs.Guarded.{GuardedState, GuardedNext, guardedStep, onGuardedStep, guardedRun}
 
 -- two runs, the second from where the first ended
-abbrev pub joined : {S : Type 0} → Ran S → Ran S → Ran S
+abbrev pub joined : {S : Type 0} → RunEnd S → RunEnd S → RunEnd S
 joined r q = record { answer = q .answer; steps = r .steps + q .steps; state = q .state }
 
 -- Paused is no other answer
@@ -38,14 +38,14 @@ at-sink e = let z : _≡_ {A = ℕ} 0 1 = cc in omega arith
 -- After an accepted step: what splits the rest of the run splits the whole, and what the rest leaves has a clock that goes on
 
 module _ {S : Type 0} where
-  clock-splits : (b : Bool) (s : S) (r whole : Ran S) (rest : S → Ran S) → (r .answer ≡ Paused → whole ≡ joined r (rest (r .state)))
+  clock-splits : (b : Bool) (s : S) (r whole : RunEnd S) (rest : S → RunEnd S) → (r .answer ≡ Paused → whole ≡ joined r (rest (r .state)))
       → onClock b s r .answer ≡ Paused → onClock b s whole ≡ joined (onClock b s r) (rest (onClock b s r .state))
   clock-splits true s r whole rest h e =
       ap afterStep (h e)
       ∙ (λ i. record { answer = rest (r .state) .answer; steps = sym (suc-add (r .steps) (rest (r .state) .steps)) i; state = rest (r .state) .state })
   clock-splits false s r whole rest h e = absurd (refused-not-paused ClockEnd e)
 
-  finish-splits : (f : Finish) (clk : ℕ) (s : S) (k whole rest : S → Ran S)
+  finish-splits : (f : Finish) (clk : ℕ) (s : S) (k whole rest : S → RunEnd S)
       → ((s : S) → k s .answer ≡ Paused → whole s ≡ joined (k s) (rest (k s .state)))
       → onFinish f clk s k .answer ≡ Paused
       → onFinish f clk s whole ≡ joined (onFinish f clk s k) (rest (onFinish f clk s k .state))
@@ -54,25 +54,25 @@ module _ {S : Type 0} where
   finish-splits (calls vs) clk s k whole rest h e = absurd (calling _ _ _ _ e)
   finish-splits (delegates vs) clk s k whole rest h e = absurd (delegating _ _ _ _ e)
 
-  clock-goes-on : (P : S → Type 0) (b : Bool) (s : S) (r : Ran S) → (b ≡ true → r .answer ≡ Paused → P (r .state))
+  clock-goes-on : (P : S → Type 0) (b : Bool) (s : S) (r : RunEnd S) → (b ≡ true → r .answer ≡ Paused → P (r .state))
       → onClock b s r .answer ≡ Paused → P (onClock b s r .state)
   clock-goes-on P true s r h e = h refl e
   clock-goes-on P false s r h e = absurd (refused-not-paused ClockEnd e)
 
-  finish-goes-on : (P : S → Type 0) (f : Finish) (clk : ℕ) (s : S) (k : S → Ran S) → (clk < clockEnd → k s .answer ≡ Paused → P (k s .state))
+  finish-goes-on : (P : S → Type 0) (f : Finish) (clk : ℕ) (s : S) (k : S → RunEnd S) → (clk < clockEnd → k s .answer ≡ Paused → P (k s .state))
       → onFinish f clk s k .answer ≡ Paused → P (onFinish f clk s k .state)
   finish-goes-on P goesOn clk s k h e = clock-goes-on P (ltb clk clockEnd) s (k s) (λ l. h (ltb-true clk clockEnd l)) e
   finish-goes-on P ends clk s k h e = absurd (ended e)
   finish-goes-on P (calls vs) clk s k h e = absurd (calling _ _ _ _ e)
   finish-goes-on P (delegates vs) clk s k h e = absurd (delegating _ _ _ _ e)
 
-  whole-run : (r : Ran S) → r ≡ record { answer = r .answer; steps = 0 + r .steps; state = r .state }
+  whole-run : (r : RunEnd S) → r ≡ record { answer = r .answer; steps = 0 + r .steps; state = r .state }
   whole-run r = λ i. record { answer = r .answer; steps = sym (zero-add (r .steps)) i; state = r .state }
 
 -- Whole runs
 
 module _ (numberMemory markMemory : Memory ℕ) (e : Environment) where
-  step-splits : (s : State numberMemory) (x : Result (Next numberMemory)) (k whole rest : State numberMemory → Ran (State numberMemory))
+  step-splits : (s : State numberMemory) (x : Result (Next numberMemory)) (k whole rest : State numberMemory → RunEnd (State numberMemory))
       → ((s : State numberMemory) → k s .answer ≡ Paused → whole s ≡ joined (k s) (rest (k s .state)))
       → onStep numberMemory s x k .answer ≡ Paused
       → onStep numberMemory s x whole ≡ joined (onStep numberMemory s x k) (rest (onStep numberMemory s x k .state))
@@ -87,7 +87,7 @@ module _ (numberMemory markMemory : Memory ℕ) (e : Environment) where
       ap (λ k. run numberMemory e k s) (suc-add m n)
       ∙ step-splits s (step numberMemory e s) (run numberMemory e m) (run numberMemory e (m + n)) (run numberMemory e n) (run-splits m n) a
 
-  step-goes-on : (s : State numberMemory) (x : Result (Next numberMemory)) (k : State numberMemory → Ran (State numberMemory))
+  step-goes-on : (s : State numberMemory) (x : Result (Next numberMemory)) (k : State numberMemory → RunEnd (State numberMemory))
       → ((s : State numberMemory) → s .clk < clockEnd → k s .answer ≡ Paused → k s .state .clk < clockEnd)
       → onStep numberMemory s x k .answer ≡ Paused → onStep numberMemory s x k .state .clk < clockEnd
   step-goes-on s (refuse f) k h a = absurd (refused-not-paused f a)
@@ -98,7 +98,7 @@ module _ (numberMemory markMemory : Memory ℕ) (e : Environment) where
   run-goes-on zero s l a = l
   run-goes-on (suc m) s l a = step-goes-on s (step numberMemory e s) (run numberMemory e m) (run-goes-on m) a
 
-  guarded-step-splits : (q : GuardedState numberMemory markMemory) (x : GuardedResult (GuardedNext numberMemory markMemory)) (k whole rest : GuardedState numberMemory markMemory → Ran (GuardedState numberMemory markMemory))
+  guarded-step-splits : (q : GuardedState numberMemory markMemory) (x : GuardedResult (GuardedNext numberMemory markMemory)) (k whole rest : GuardedState numberMemory markMemory → RunEnd (GuardedState numberMemory markMemory))
       → ((q : GuardedState numberMemory markMemory) → k q .answer ≡ Paused → whole q ≡ joined (k q) (rest (k q .state)))
       → onGuardedStep numberMemory markMemory q x k .answer ≡ Paused
       → onGuardedStep numberMemory markMemory q x whole ≡ joined (onGuardedStep numberMemory markMemory q x k) (rest (onGuardedStep numberMemory markMemory q x k .state))
@@ -117,7 +117,7 @@ module _ (numberMemory markMemory : Memory ℕ) (e : Environment) where
       (guarded-run-splits m n)
       a
 
-  guarded-step-goes-on : (q : GuardedState numberMemory markMemory) (x : GuardedResult (GuardedNext numberMemory markMemory)) (k : GuardedState numberMemory markMemory → Ran (GuardedState numberMemory markMemory))
+  guarded-step-goes-on : (q : GuardedState numberMemory markMemory) (x : GuardedResult (GuardedNext numberMemory markMemory)) (k : GuardedState numberMemory markMemory → RunEnd (GuardedState numberMemory markMemory))
       → ((q : GuardedState numberMemory markMemory) → q .plain .clk < clockEnd → k q .answer ≡ Paused → k q .state .plain .clk < clockEnd)
       → onGuardedStep numberMemory markMemory q x k .answer ≡ Paused → onGuardedStep numberMemory markMemory q x k .state .plain .clk < clockEnd
   guarded-step-goes-on q (refuses f) k h a = absurd (refused-not-paused f a)

@@ -8,7 +8,7 @@ use Rattle.rules.specs.Results.{Result, GuardedResult}
 use Rattle.rules.specs.Cells.{numberCells, markCells}
 use Rattle.rules.specs.Opcodes.{Class, addition, multiplication, equality, small, complement, move, assert, rangeCheck, jump, conditionalJump, call, return, load, store, tapeLoad, tapeStore, contractCall, end, uncovered, classOf}
 use Rattle.rules.specs.Operands.{Operands}
-use Rattle.rules.specs.Step.{Environment, State, Next, overlay, operate, capacity, step, Ran, onStep, run}
+use Rattle.rules.specs.Step.{Environment, State, Next, overlay, operate, capacity, step, RunEnd, onStep, run}
 use Rattle.rules.specs.Guarded.{MarkState, readSink, marksAfter, GuardedState, GuardedNext, guardedRest, guardedStep, onGuardedStep, guardedRun}
 use Rattle.rules.specs.Relations.{Both, both-refused, passed, BothGuarded, refused-alike, sink-alike, passed-alike, BothRan}
 use Rattle.rules.proofs.Laws.OverlayLaws.{overlay-overlay}
@@ -118,7 +118,7 @@ step-behind w e (behind {s} v h) =
     both-bind _ _ (operate-behind w e i s v o h (classOf (i .opcode))) λ n m k.
     capacity-behind w e k
 
-on-step-behind : (w : List ℕ) {s t : State numberCells} {x y : Result (Next numberCells)} (k : State numberCells → Ran (State numberCells))
+on-step-behind : (w : List ℕ) {s t : State numberCells} {x y : Result (Next numberCells)} (k : State numberCells → RunEnd (State numberCells))
     → Behind w s t → Both (NextBehind w) x y → ((s t : State numberCells) → Behind w s t → BothRan (Behind w) (k s) (k t))
     → BothRan (Behind w) (onStep numberCells s x k) (onStep numberCells t y k)
 on-step-behind w k b both-refused g = record { answer = refl; steps = refl; state = b }
@@ -155,7 +155,7 @@ guarded-step-behind w e (guarded-behind {u = u} (behind {s} v h)) =
     rw (← (marks-behind w e i s v o h u (classOf (i .opcode)))) (passed-alike (guarded-next-behind k))))
 
 on-guarded-step-behind : (w : List ℕ) {q r : GuardedState numberCells markCells} {x y : GuardedResult (GuardedNext numberCells markCells)}
-    (k : GuardedState numberCells markCells → Ran (GuardedState numberCells markCells)) → GuardedBehind w q r → BothGuarded (GuardedNextBehind w) x y
+    (k : GuardedState numberCells markCells → RunEnd (GuardedState numberCells markCells)) → GuardedBehind w q r → BothGuarded (GuardedNextBehind w) x y
     → ((q r : GuardedState numberCells markCells) → GuardedBehind w q r → BothRan (GuardedBehind w) (k q) (k r))
     → BothRan (GuardedBehind w) (onGuardedStep numberCells markCells q x k) (onGuardedStep numberCells markCells r y k)
 on-guarded-step-behind w k b refused-alike g = record { answer = refl; steps = refl; state = b }

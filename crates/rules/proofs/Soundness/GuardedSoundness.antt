@@ -14,7 +14,7 @@ use Rattle.rules.specs.Memory.{present}
 use Rattle.rules.specs.Cells.{Cells, none, cell, get, put, addresses, RisingFrom, numberCells, markCells}
 use Rattle.rules.specs.Opcodes.{Class, addition, multiplication, equality, small, complement, move, assert, rangeCheck, jump, conditionalJump, call, return, load, store, tapeLoad, tapeStore, contractCall, end, uncovered, classOf}
 use Rattle.rules.specs.Operands.{Operands}
-use Rattle.rules.specs.Step.{Environment, State, Ran, contentValue}
+use Rattle.rules.specs.Step.{Environment, State, RunEnd, contentValue}
 use Rattle.rules.specs.Guarded.{registerMark, cellMark, MarkState, cleanMany, marksAfter, GuardedState, GuardedNext, guardedRest, guardedStep, onGuardedStep, guardedRun}
 use Rattle.rules.specs.Relations.{Both, passed}
 use Rattle.rules.specs.Soundness.{Sound, GuardedSound, KeepsSound}
@@ -161,7 +161,7 @@ step-keeps e q h =
     passed-guarded (record { plain = l; zeroOrOne = after-bits (q .marks) (classOf (i .opcode)) i (q .plain) o (h .zeroOrOne) })))
 
 on-step-keeps : (e : Environment) (q : GuardedState numberCells markCells) {r : GuardedResult (GuardedNext numberCells markCells)}
-    (k : GuardedState numberCells markCells → Ran (GuardedState numberCells markCells)) → Kept e q → PassingGuarded (λ n. Kept e (left n)) r
+    (k : GuardedState numberCells markCells → RunEnd (GuardedState numberCells markCells)) → Kept e q → PassingGuarded (λ n. Kept e (left n)) r
     → ((q : GuardedState numberCells markCells) → Kept e q → Kept e (k q .state)) → Kept e (onGuardedStep numberCells markCells q r k .state)
 on-step-keeps e q k h refused-guarded g = h
 on-step-keeps e q k h sink-guarded g = h

@@ -14,7 +14,7 @@ use Rattle.rules.specs.Memory.{present}
 use Rattle.rules.specs.Cells.{Cells, get, put, count, numberCells}
 use Rattle.rules.specs.Opcodes.{Class, addition, multiplication, equality, small, complement, move, assert, rangeCheck, jump, conditionalJump, call, return, load, store, tapeLoad, tapeStore, contractCall, end, uncovered, classOf}
 use Rattle.rules.specs.Operands.{Operands}
-use Rattle.rules.specs.Step.{Environment, State, Next, storeMany, writesRegister, writesCells, operate, capacity, step, Ran, onStep, run}
+use Rattle.rules.specs.Step.{Environment, State, Next, storeMany, writesRegister, writesCells, operate, capacity, step, RunEnd, onStep, run}
 use Rattle.rules.specs.Soundness.{SoundCells, Sound}
 use Rattle.rules.proofs.Laws.BoolLaws.{and-left, and-right}
 use Rattle.rules.proofs.Laws.CellLaws.{get-put, rising-put}
@@ -129,7 +129,7 @@ step-sound e s h =
     passing-bind _ (operate-keeps e i s o h (classOf (i .opcode))) λ n k.
     capacity-sound e n k
 
-on-step-sound : (e : Environment) (s : State numberCells) {r : Result (Next numberCells)} (k : State numberCells → Ran (State numberCells)) → Sound e s
+on-step-sound : (e : Environment) (s : State numberCells) {r : Result (Next numberCells)} (k : State numberCells → RunEnd (State numberCells)) → Sound e s
     → Passing (λ n. Sound e (n .state)) r → ((t : State numberCells) → Sound e t → Sound e (k t .state)) → Sound e (onStep numberCells s r k .state)
 on-step-sound e s k h passing-refused q = h
 on-step-sound e s k h (passed {a = n} a) q = finish-keeps (Sound e) (n .finish) (n .state .clk) (n .state) k a (q (n .state) a)
