@@ -26,6 +26,7 @@ pub mod NonInterference
 pub mod Witnesses
 pub mod Relations
 pub mod MapAgreement
+pub mod MapCalls
 pub mod Soundness
 pub mod Resumption
 pub mod SplitCalls
