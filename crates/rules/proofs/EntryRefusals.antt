@@ -1,4 +1,2 @@
--- Refusals 1, 2 and 3 are the entry's; what 2 carries.
-pub mod Refusing
-pub mod PastEntry
+-- What refusal 2 carries.
 pub mod EarliestCarried

@@ -3,6 +3,7 @@
 pub mod Laws
 pub mod EntryRefusals
 pub mod Cases
+pub mod EveryCall
 pub mod MarksAndSinks
 pub mod MapAgreement
 pub mod NonInterference

@@ -1,6 +1,6 @@
 -- Whole calls: what each public call gives, refusals at entry included. 1, 2 and 3 are looked for in this order.
 use Prim.Native.Nat.{ℕ}
-use mathlib.Core.List.{List}
+use mathlib.Core.List.{List, []}
 use Rattle.rules.specs.declared.Instruction.{Instruction}
 use Rattle.rules.specs.declared.Refusal.{Refusal}
 use Rattle.rules.specs.declared.Refusal.the-variants.{BadState}
@@ -11,7 +11,7 @@ use Rattle.rules.specs.Text.{Job, loadText, loadBudgetText}
 use Rattle.rules.specs.Cells.{numberCells, markCells}
 use Rattle.rules.specs.Step.{State, RunEnd, run}
 use Rattle.rules.specs.Guarded.{GuardedState, guardedRun}
-use Rattle.rules.specs.Answers.{Meaning, meaning, refusalMeaning}
+use Rattle.rules.specs.Answers.{Meaning, outcome, meaning, refusalMeaning}
 use Rattle.rules.specs.Entry.{Snapshot, GuardedSnapshot, plainEntry, guardedEntry, environment, stateOf, guardedStateOf, snapshotAfter, guardedSnapshotAfter}
 
 -- the answer, the steps, and all that was handed in as it is afterwards
@@ -23,6 +23,10 @@ pub record Called (S : Type 0) : Type 0 where
 -- a call refused at entry leaves everything
 abbrev pub refusedCall : {S : Type 0} → Refusal → S → Called S
 refusedCall f s = record { answer = refusalMeaning f; steps = 0; left = s }
+
+-- e3 after k steps
+abbrev pub pausedAfter : {S : Type 0} → ℕ → S → Called S
+pausedAfter k s = record { answer = outcome 3 []; steps = k; left = s }
 
 abbrev pub plainRunOf : List Instruction → ℕ → Snapshot → RunEnd (State numberCells)
 plainRunOf program budget s = run numberCells (environment program s) budget (stateOf s)

@@ -18,6 +18,7 @@ pub mod Calls
 pub mod Handed
 pub mod Solve
 -- statements about them: the frame of refusal 2, kilosteps, demand 3, the plain map, soundness
+pub mod EveryCall
 pub mod MalformedFrames
 pub mod NearestThousand
 pub mod MarkRules

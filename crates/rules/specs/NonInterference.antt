@@ -12,9 +12,9 @@ use Rattle.rules.specs.Results.{Result, pass}
 use Rattle.rules.specs.Cells.{numberCells, markCells, get, zipped}
 use Rattle.rules.specs.Step.{State}
 use Rattle.rules.specs.Guarded.{registerMark, contentMark}
-use Rattle.rules.specs.Answers.{outcome, refusal}
+use Rattle.rules.specs.Answers.{refusal}
 use Rattle.rules.specs.Entry.{Snapshot, GuardedSnapshot, usedAddresses, usedNumbers, usedTape, usedOutput, usedMarks, markedRegisters, markedCells, marksEntry, guardedEntry, environment, stateOf}
-use Rattle.rules.specs.Calls.{Called, refusedCall}
+use Rattle.rules.specs.Calls.{Called, refusedCall, pausedAfter}
 use Rattle.rules.specs.MarkRules.{register, cell, Marking}
 use Rattle.rules.specs.SinkRules.{ReachesSink, Comes}
 
@@ -86,10 +86,6 @@ SinkAfter k c = MeetsSink c × (c .steps ≡ k)
 -- a call without its marks
 abbrev pub withoutMarks : Called GuardedSnapshot → Called Snapshot
 withoutMarks c = record { answer = c .answer; steps = c .steps; left = c .left .plain }
-
--- e3 after k steps
-abbrev pub pausedAfter : ℕ → Snapshot → Called Snapshot
-pausedAfter k s = record { answer = outcome 3 []; steps = k; left = s }
 
 -- the marks that a snapshot starts with
 abbrev pub startMarks : GuardedSnapshot → Marking

@@ -16,15 +16,16 @@ use Rattle.rules.specs.Results.{Result, refuse, pass, require}
 use Rattle.rules.specs.Frames.{valueCount, frameOf, onFrame, framesAfter, isMalformed, anyOf, earliestMalformed, countFits, instructions, loadFrames, loadWords}
 use Rattle.rules.specs.Text.{Line, Job, lineFeed, linesOf, frameOfLine, loadText, loadJob, loadBudgetText}
 use Rattle.rules.specs.Answers.{refusal, refusalMeaning}
-use Rattle.rules.specs.Cells.{numberCells, markCells}
 use Rattle.rules.specs.Entry.{Snapshot, GuardedSnapshot, plainEntry, guardedEntry, environment, stateOf, guardedStateOf}
 use Rattle.rules.specs.Calls.{Called, refusedCall, jobProgram, jobBudget, plainCall, plainWords, plainText, plainBudgetText, guardedCall, guardedWords, guardedText, guardedBudgetText}
 use Rattle.rules.specs.Solve.{decimal, zeroFields, spaced, carriedFields, printed, solveStart, solve}
+use Rattle.rules.specs.EveryCall.{atEntry, when}
 use Rattle.rules.specs.MalformedFrames.{MalformedAt, here, further, Earliest, this, later, EarliestIsLeast, Numbered, numberedWords, OneAmongWords, numberedText, jobFrames, malformedJob, numberedBudgetText, ToCarry, CarriesEarliest, CallsCarryEarliest}
 use Rattle.rules.proofs.Laws.BoolLaws.{false-true}
 use Rattle.rules.proofs.Laws.ResultLaws.{refuse-pass}
 use Rattle.rules.proofs.Laws.AnswerLaws.{malformed-refusal}
-use Rattle.rules.proofs.EntryRefusals.PastEntry.{isPastEntry, run-past, guarded-run-past}
+use Rattle.rules.proofs.EveryCall.PlainEnds.{run-past}
+use Rattle.rules.proofs.EveryCall.GuardedEnds.{guarded-run-past}
 
 -- The earliest malformed frame
 
@@ -168,10 +169,10 @@ as-loaded f s g h =
     }
 
 -- and one whose program is loaded: the state is unfit, or the run gets past the entry
-unfit-or-run : {S : Type 0} (b : Bool) (ran : Called S) (s : S) → isPastEntry (ran .answer) ≡ true → (values : List ℕ)
+unfit-or-run : {S : Type 0} (b : Bool) (ran : Called S) (s : S) → (when (ran .answer) ≡ atEntry → ⊥) → (values : List ℕ)
     → choose b ran (refusedCall BadState s) .answer ≡ refusal 2 values → ⊥
 unfolding refusalMeaning
-unfit-or-run true ran s h values e = false-true (sym (ap isPastEntry e) ∙ h)
+unfit-or-run true ran s h values e = h (ap when e)
 unfit-or-run false ran s h values e = let z : _≡_ {A = ℕ} 3 2 = cc in omega arith
 
 entered : (f : Numbered) {S : Type 0} (s : S) (call : Called S) {program : List Instruction} → LoadsEarliest f (pass program)
@@ -183,14 +184,14 @@ plain-carries : (f : Numbered) (loaded : Result (List Instruction)) → LoadsEar
 unfolding plainCall
 plain-carries f (refuse g) h budget s = as-loaded f s g h
 plain-carries f (pass program) h budget s =
-    entered f s _ h (unfit-or-run (plainEntry s) _ s (run-past numberCells markCells (environment program s) budget (stateOf s)))
+    entered f s _ h (unfit-or-run (plainEntry s) _ s (run-past (environment program s) budget (stateOf s)))
 
 guarded-carries : (f : Numbered) (loaded : Result (List Instruction)) → LoadsEarliest f loaded → (budget : ℕ) (g : GuardedSnapshot)
     → CarriesEarliest f g (guardedCall loaded budget g)
 unfolding guardedCall
 guarded-carries f (refuse r) h budget g = as-loaded f g r h
 guarded-carries f (pass program) h budget g =
-    entered f g _ h (unfit-or-run (guardedEntry g) _ g (guarded-run-past numberCells markCells (environment program (g .plain)) budget (guardedStateOf g)))
+    entered f g _ h (unfit-or-run (guardedEntry g) _ g (guarded-run-past (environment program (g .plain)) budget (guardedStateOf g)))
 
 budget-text-carries : (text : List ℕ) (s : Snapshot) → CarriesEarliest (numberedBudgetText text) s (plainBudgetText text s)
 unfolding plainBudgetText

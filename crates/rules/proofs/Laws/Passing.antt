@@ -68,6 +68,12 @@ unfolding guard
 passing-guard true h = sink-guarded
 passing-guard false h = h
 
+pub passing-guarded-at : {A : Type 0} {P : A → Type 0} {r : GuardedResult A} {a : A} → PassingGuarded P r → r ≡ passes a → P a
+passing-guarded-at {P = P} h e = go (subst (PassingGuarded P) e h)
+  where
+    go : {a : _} → PassingGuarded P (passes a) → P a
+    go (passed-guarded q) = q
+
 -- a property of the state that an accepted step leaves, and of what the rest of the run leaves, holds of the whole run's end
 module _ {S : Type 0} (P : S → Type 0) where
   clock-keeps : (b : Bool) (s : S) (r : RunEnd S) → P s → P (r .state) → P (onClock b s r .state)

@@ -38,8 +38,8 @@ guarded-entered program budget g ten true e =
     let w = guarded-entry-sound program g ten e in
     let c = w .plain .cells .rising in
     let h =
-        map-agreement (environment program (g .plain)) .guardedRun budget q
-        (record { plain = c; marks = rising-addresses 0 (q .marks .cells) (q .plain .cells) (w .addresses) c }) in
+    map-agreement (environment program (g .plain)) .guardedRun budget q
+    (record { plain = c; marks = rising-addresses 0 (q .marks .cells) (q .plain .cells) (w .addresses) c }) in
     subst (GuardedOnMap (pass program) budget g)
     (λ i. record { answer = meaning (sym (h .answer) i); steps = sym (h .steps) i; left = guardedSnapshotAfter g (guardedRunOf program budget g .state) })
     (runs-guarded e (guardedRunOf program budget g .state) (h .state))

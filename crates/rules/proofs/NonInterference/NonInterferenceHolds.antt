@@ -16,11 +16,11 @@ use Rattle.rules.specs.Step.{RunEnd}
 use Rattle.rules.specs.Guarded.{GuardedState, guardedRun}
 use Rattle.rules.specs.Answers.{Meaning, meaning}
 use Rattle.rules.specs.Entry.{GuardedSnapshot, lowBits, all, plainEntry, marksEntry, guardedEntry, environment, stateOf, guardedStateOf, snapshotAfter, guardedSnapshotAfter}
-use Rattle.rules.specs.Calls.{Called, refusedCall, plainRunOf, guardedRunOf, plainAnswered, guardedAnswered, plainCall, guardedCall, jobBudget, jobProgram, plainWords, plainText, guardedWords, guardedText, guardedBudgetText}
+use Rattle.rules.specs.Calls.{Called, refusedCall, pausedAfter, plainRunOf, guardedRunOf, plainAnswered, guardedAnswered, plainCall, guardedCall, jobBudget, jobProgram, plainWords, plainText, guardedWords, guardedText, guardedBudgetText}
 use Rattle.rules.specs.Relations.{BothRan}
 use Rattle.rules.specs.MarkRules.{Place, register, cell, Marking}
 use Rattle.rules.specs.SinkRules.{Comes}
-use Rattle.rules.specs.NonInterference.{MarkedBelow, Alike, SameCalls, MeetsSink, SinkAfter, withoutMarks, pausedAfter, startMarks, Reaches, reaches, Unmarked, NonInterference}
+use Rattle.rules.specs.NonInterference.{MarkedBelow, Alike, SameCalls, MeetsSink, SinkAfter, withoutMarks, startMarks, Reaches, reaches, Unmarked, NonInterference}
 use Rattle.rules.proofs.Laws.BoolLaws.{and-with-true, and-with-false}
 use Rattle.rules.proofs.Laws.AnswerLaws.{paused-meaning, sink-meaning, sink-answer, refusal-not-sink}
 use Rattle.rules.proofs.Laws.EntryLaws.{all-at}

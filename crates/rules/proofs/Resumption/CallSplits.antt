@@ -52,16 +52,16 @@ snapshot-twice s t u v g h =
       output = (overlay-overlay v (t .written) (s .output) ∙ ap (λ l. overlay l (s .output)) (sym h)) i;
     }
 
-left-twice : (s : Snapshot) {t u x : State numberCells} → Grown t u → Behind (t .written) u x → snapshotAfter s u ≡ snapshotAfter (snapshotAfter s t) x
+pub left-twice : (s : Snapshot) {t u x : State numberCells} → Grown t u → Behind (t .written) u x → snapshotAfter s u ≡ snapshotAfter (snapshotAfter s t) x
 left-twice s {t} g (behind {s = u} v h) = sym (snapshot-twice s t u v g h)
 
 -- a state and the same as the next call sees it
-resumed-behind : {e : Environment} (t : State numberCells) → Sound e t → Behind (t .written) t (resumed t)
+pub resumed-behind : {e : Environment} (t : State numberCells) → Sound e t → Behind (t .written) t (resumed t)
 resumed-behind t h = behind (t .output) (sym (overlay-same (t .output) (t .written) (h .first)))
 
 -- The plain call
 
-plain-passes : (program : List Instruction) (s : Snapshot) (n : ℕ) → plainEntry s ≡ true
+pub plain-passes : (program : List Instruction) (s : Snapshot) (n : ℕ) → plainEntry s ≡ true
     → plainCall (pass program) n s ≡ plainAnswered s (plainRunOf program n s)
 unfolding plainCall
 plain-passes program s n h = ap (λ b. choose b (plainAnswered s (plainRunOf program n s)) (refusedCall BadState s)) h
@@ -104,7 +104,7 @@ module _ (program : List Instruction) (s : Snapshot) (ten : length (s .machine .
 
 -- The guarded call
 
-guarded-twice : (g : GuardedSnapshot) (q : GuardedState numberCells markCells) {r x : GuardedState numberCells markCells} → Grown (q .plain) (r .plain) → count (q .marks .cells) ≤ count (r .marks .cells)
+pub guarded-twice : (g : GuardedSnapshot) (q : GuardedState numberCells markCells) {r x : GuardedState numberCells markCells} → Grown (q .plain) (r .plain) → count (q .marks .cells) ≤ count (r .marks .cells)
     → GuardedBehind (q .plain .written) r x → guardedSnapshotAfter g r ≡ guardedSnapshotAfter (guardedSnapshotAfter g q) x
 guarded-twice g q h l (guarded-behind {u = u} b) =
     λ i.
@@ -114,13 +114,13 @@ guarded-twice g q h l (guarded-behind {u = u} b) =
       extras = record { registers = wordOfBits (u .registers) };
     }
 
-guarded-passes : (program : List Instruction) (g : GuardedSnapshot) (n : ℕ) → guardedEntry g ≡ true
+pub guarded-passes : (program : List Instruction) (g : GuardedSnapshot) (n : ℕ) → guardedEntry g ≡ true
     → guardedCall (pass program) n g ≡ guardedAnswered g (guardedRunOf program n g)
 unfolding guardedCall
 guarded-passes program g n h = ap (λ b. choose b (guardedAnswered g (guardedRunOf program n g)) (refusedCall BadState g)) h
 
 -- as many marks as cells
-mark-count : {e : Environment} {q : GuardedState numberCells markCells} → GuardedSound e q → count (q .marks .cells) ≡ count (q .plain .cells)
+pub mark-count : {e : Environment} {q : GuardedState numberCells markCells} → GuardedSound e q → count (q .marks .cells) ≡ count (q .plain .cells)
 mark-count {q = q} h = sym (length-addresses (q .marks .cells)) ∙ ap length (h .addresses) ∙ length-addresses (q .plain .cells)
 
 module _ (program : List Instruction) (g : GuardedSnapshot) (ten : length (g .plain .machine .registers) ≡ 10) (passes : guardedEntry g ≡ true) (m n : ℕ) (paused : guardedRunOf program m g .answer ≡ Paused) where

@@ -84,10 +84,10 @@ capacity-grows : (e : Environment) (s : State numberCells) (n : Next numberCells
 capacity-grows e s n h = passing-require _ λ a. passed h
 
 -- sound, and grown from where it came
-abbrev SoundGrown : Environment → State numberCells → State numberCells → Type 0
+abbrev pub SoundGrown : Environment → State numberCells → State numberCells → Type 0
 SoundGrown e s t = Sound e t × Grown s t
 
-step-grows : (e : Environment) (s : State numberCells) → Sound e s → Passing (λ n. SoundGrown e s (n .state)) (step numberCells e s)
+pub step-grows : (e : Environment) (s : State numberCells) → Sound e s → Passing (λ n. SoundGrown e s (n .state)) (step numberCells e s)
 unfolding step
 step-grows e s h =
     passing-any _ _ λ i.
@@ -106,7 +106,7 @@ unfolding run
 run-grows e zero s h = grown-same s
 run-grows e (suc budget) s h = on-step-grows e s (run numberCells e budget) (step-grows e s h) (run-grows e budget)
 
-guarded-step-grows : (e : Environment) (q : GuardedState numberCells markCells) → Sound e (q .plain)
+pub guarded-step-grows : (e : Environment) (q : GuardedState numberCells markCells) → Sound e (q .plain)
     → PassingGuarded (λ n. SoundGrown e (q .plain) (n .next .state)) (guardedStep numberCells markCells e q)
 unfolding guardedStep guardedRest
 guarded-step-grows e q h =

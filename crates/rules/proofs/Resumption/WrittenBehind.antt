@@ -110,7 +110,7 @@ capacity-behind w e (next-behind v h) = both-require NoCapacity refl (passed (ne
 
 -- The plain step and run
 
-step-behind : (w : List ℕ) (e : Environment) {s t : State numberCells} → Behind w s t → Both (NextBehind w) (step numberCells e s) (step numberCells e t)
+pub step-behind : (w : List ℕ) (e : Environment) {s t : State numberCells} → Behind w s t → Both (NextBehind w) (step numberCells e s) (step numberCells e t)
 unfolding step
 step-behind w e (behind {s} v h) =
     both-bind-equal _ _ refl λ i.
@@ -138,11 +138,11 @@ pub data GuardedBehind (w : List ℕ) : GuardedState numberCells markCells → G
   guarded-behind : {s t : State numberCells} {u : MarkState markCells} → Behind w s t
       → GuardedBehind w (record { plain = s; marks = u }) (record { plain = t; marks = u })
 
-data GuardedNextBehind (w : List ℕ) : GuardedNext numberCells markCells → GuardedNext numberCells markCells → Type 0 where
+pub data GuardedNextBehind (w : List ℕ) : GuardedNext numberCells markCells → GuardedNext numberCells markCells → Type 0 where
   guarded-next-behind : {n m : Next numberCells} {u : MarkState markCells} → NextBehind w n m
       → GuardedNextBehind w (record { next = n; marks = u }) (record { next = m; marks = u })
 
-guarded-step-behind : (w : List ℕ) (e : Environment) {q r : GuardedState numberCells markCells} → GuardedBehind w q r
+pub guarded-step-behind : (w : List ℕ) (e : Environment) {q r : GuardedState numberCells markCells} → GuardedBehind w q r
     → BothGuarded (GuardedNextBehind w) (guardedStep numberCells markCells e q) (guardedStep numberCells markCells e r)
 unfolding guardedStep guardedRest
 guarded-step-behind w e (guarded-behind {u = u} (behind {s} v h)) =

@@ -1,4 +1,5 @@
 -- A property of what a stage refuses with: through the stages of a step.
+use mathlib.Core.Path.{_≡_, subst}
 use mathlib.Core.Bool.{Bool, true, false}
 use Rattle.rules.specs.declared.Refusal.{Refusal}
 use Rattle.rules.specs.Numbers.{choose}
@@ -39,3 +40,16 @@ module _ {P : Refusal → Type 0} {A : Type 0} where
   unfolding guard
   refusing-guard true h = sink-guarded
   refusing-guard false h = h
+
+-- what is refused has the property
+pub refusing-at : {P : Refusal → Type 0} {A : Type 0} {x : Result A} {f : Refusal} → Refusing P x → x ≡ refuse f → P f
+refusing-at {P} {A} h e = go (subst (Refusing P) e h)
+  where
+    go : {f : Refusal} → Refusing P {A = A} (refuse f) → P f
+    go (refusing-refused p) = p
+
+pub refusing-guarded-at : {P : Refusal → Type 0} {A : Type 0} {x : GuardedResult A} {f : Refusal} → RefusingGuarded P x → x ≡ refuses f → P f
+refusing-guarded-at {P} {A} h e = go (subst (RefusingGuarded P) e h)
+  where
+    go : {f : Refusal} → RefusingGuarded P {A = A} (refuses f) → P f
+    go (refused-guarded p) = p

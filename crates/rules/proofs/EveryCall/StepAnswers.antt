@@ -1,4 +1,4 @@
--- Refusals 1, 2 and 3 are the entry's alone: no step is refused with one of them, and so no run is.
+-- Refusals 1, 2 and 3 are the entry's alone, and 17 is the clock's: a step is refused with one of 4 to 16, or at a sink.
 use Prim.Native.Nat.{ℕ, zero, suc, _-_}
 use mathlib.Core.Path.{_≡_, refl}
 use mathlib.Core.Bool.{Bool, true, false}
@@ -19,18 +19,12 @@ use Rattle.rules.specs.Operands.{binaryLength, instructionAt, fetch, Wan
 use Rattle.rules.specs.Step.{Environment, State, Next, Finish, goesOn, ends, calls, delegates, RunEnd, onClock, onFinish, r9, contentValue, read, readBelow, readMany, readSpan, storeMany, operate, capacity, step, onStep, run}
 use Rattle.rules.specs.Guarded.{MarkState, GuardedState, GuardedNext, guardedRest, guardedStep, onGuardedStep, guardedRun}
 use Rattle.rules.specs.Answers.{Meaning, outcome, refusal, refusalMeaning, meaning}
-use Rattle.rules.proofs.EntryRefusals.Refusing.{Refusing, refusing-refused, passed, RefusingGuarded, refused-guarded, sink-guarded, passed-guarded, refusing-require, refusing-choose, refusing-bind, refusing-after, refusing-guard}
+use Rattle.rules.specs.EveryCall.{inStepsPlace, when}
+use Rattle.rules.proofs.EveryCall.Refusing.{Refusing, refusing-refused, passed, RefusingGuarded, refused-guarded, sink-guarded, passed-guarded, refusing-require, refusing-choose, refusing-bind, refusing-after, refusing-guard}
 
--- an outcome, or a refusal above 3
-abbrev pub isPastEntry : Meaning → Bool
-isPastEntry (outcome n vs) = true
-isPastEntry (refusal n vs) = ltb 3 n
-
-abbrev AtStep : Refusal → Type 0
-AtStep f = isPastEntry (refusalMeaning f) ≡ true
-
-abbrev Past : Answer → Type 0
-Past a = isPastEntry (meaning a) ≡ true
+-- 4 to 16
+abbrev pub AtStep : Refusal → Type 0
+AtStep f = when (refusalMeaning f) ≡ inStepsPlace
 
 -- Fetch
 
@@ -160,7 +154,7 @@ module _ (numberMemory markMemory : Memory ℕ) where
 
     -- Steps
 
-    stepped : (s : State numberMemory) → Refusing AtStep (step numberMemory e s)
+    pub stepped : (s : State numberMemory) → Refusing AtStep (step numberMemory e s)
     unfolding step
     stepped s =
         refusing-bind _ (fetched _ _) λ i.
@@ -174,50 +168,9 @@ module _ (numberMemory markMemory : Memory ℕ) where
         refusing-after _ (operated c i s o) λ n.
         refusing-guard _ (refusing-after _ (fitted n) λ n. passed-guarded)
 
-    guarded-stepped : (q : GuardedState numberMemory markMemory) → RefusingGuarded AtStep (guardedStep numberMemory markMemory e q)
+    pub guarded-stepped : (q : GuardedState numberMemory markMemory) → RefusingGuarded AtStep (guardedStep numberMemory markMemory e q)
     unfolding guardedStep
     guarded-stepped q =
         refusing-after _ (fetched _ _) λ i.
         refusing-after _ (operands-read _ _ _ i) λ o.
         refusing-guard _ (guarded-rest _ _ i _ o)
-
--- Runs
-
-module _ {S : Type 0} where
-  clock-past : (b : Bool) (s : S) (r : RunEnd S) → Past (r .answer) → Past (onClock b s r .answer)
-  unfolding meaning refusalMeaning
-  clock-past true s r h = h
-  clock-past false s r h = refl
-
-  finish-past : (f : Finish) (clk : ℕ) (s : S) (k : S → RunEnd S) → Past (k s .answer) → Past (onFinish f clk s k .answer)
-  unfolding meaning
-  finish-past goesOn clk s k h = clock-past (ltb clk clockEnd) s (k s) h
-  finish-past ends clk s k h = refl
-  finish-past (calls vs) clk s k h = refl
-  finish-past (delegates vs) clk s k h = refl
-
-module _ (numberMemory markMemory : Memory ℕ) (e : Environment) where
-  on-step-past : (s : State numberMemory) {r : Result (Next numberMemory)} (k : State numberMemory → RunEnd (State numberMemory)) → Refusing AtStep r
-      → ((t : State numberMemory) → Past (k t .answer)) → Past (onStep numberMemory s r k .answer)
-  unfolding meaning
-  on-step-past s k (refusing-refused h) q = h
-  on-step-past s k (passed {a = n}) q = finish-past (n .finish) (n .state .clk) (n .state) k (q (n .state))
-
-  pub run-past : (budget : ℕ) (s : State numberMemory) → Past (run numberMemory e budget s .answer)
-  unfolding run meaning
-  run-past zero s = refl
-  run-past (suc budget) s = on-step-past s (run numberMemory e budget) (stepped numberMemory markMemory e s) (run-past budget)
-
-  on-guarded-step-past : (q : GuardedState numberMemory markMemory) {r : GuardedResult (GuardedNext numberMemory markMemory)} (k : GuardedState numberMemory markMemory → RunEnd (GuardedState numberMemory markMemory)) → RefusingGuarded AtStep r
-      → ((t : GuardedState numberMemory markMemory) → Past (k t .answer)) → Past (onGuardedStep numberMemory markMemory q r k .answer)
-  unfolding meaning
-  on-guarded-step-past q k (refused-guarded h) z = h
-  on-guarded-step-past q k sink-guarded z = refl
-  on-guarded-step-past q k (passed-guarded {a = n}) z =
-      let left : GuardedState numberMemory markMemory = record { plain = n .next .state; marks = n .marks } in
-      finish-past (n .next .finish) (n .next .state .clk) left k (z left)
-
-  pub guarded-run-past : (budget : ℕ) (q : GuardedState numberMemory markMemory) → Past (guardedRun numberMemory markMemory e budget q .answer)
-  unfolding guardedRun meaning
-  guarded-run-past zero q = refl
-  guarded-run-past (suc budget) q = on-guarded-step-past q (guardedRun numberMemory markMemory e budget) (guarded-stepped numberMemory markMemory e q) (guarded-run-past budget)

@@ -1,0 +1,9 @@
+-- Every call gets an outcome or one numbered refusal, and leaves what it promises.
+pub mod RunEnds
+pub mod Refusing
+pub mod StepAnswers
+pub mod Answers
+pub mod Promises
+pub mod PlainEnds
+pub mod GuardedEnds
+pub mod EveryCallHolds
