@@ -1,6 +1,7 @@
--- Demand 1, as one statement about whole calls, plain and guarded: each gets an outcome or one numbered refusal, after at most its budget of
--- steps. Refused at entry it leaves everything; at a step, what the steps before it left; only the step of 17 stands.
-use Prim.Native.Nat.{ℕ, suc, _≤_, _<_}
+-- Demand 1, as one statement about whole calls, plain and guarded: any call gets an outcome or one numbered refusal, after at most its
+-- budget of steps. Refused at entry it leaves everything, at a step what the step before left; of the refused calls only one with 17 keeps
+-- its last step. Each step is accounted for: what a call leaves after k + 1 steps is one accepted step from what the call with budget k left.
+use Prim.Native.Nat.{ℕ, suc, _+_, _≤_, _<_}
 use mathlib.Core.Path.{_≡_}
 use mathlib.Core.List.{List, [], _∷_}
 use mathlib.Core.Logic.{_↔_}
@@ -20,36 +21,37 @@ use Rattle.rules.specs.Answers.{Meaning, outcome, refusal, meaning, refu
 use Rattle.rules.specs.Entry.{Snapshot, GuardedSnapshot, environment, stateOf, guardedStateOf, snapshotAfter, guardedSnapshotAfter}
 use Rattle.rules.specs.Calls.{Called, pausedAfter, jobBudget, jobProgram, plainCall, plainWords, plainText, plainBudgetText, guardedCall, guardedWords, guardedText, guardedBudgetText}
 
--- The answers: an outcome 0 to 3 or a refusal from 1 on, each with exactly the values that it carries. The last refusal is 17 in a plain
--- call, which never gives 18, and 18 in a guarded one.
-pub data IsAnswer (last : ℕ) : Meaning → Type 0 where
-  ended : IsAnswer last (outcome 0 [])
-  calling : {a b c d : ℕ} → IsAnswer last (outcome 1 (a ∷ b ∷ c ∷ d ∷ []))
-  delegate-calling : {a b c d : ℕ} → IsAnswer last (outcome 2 (a ∷ b ∷ c ∷ d ∷ []))
-  paused : IsAnswer last (outcome 3 [])
-  malformed : {n : ℕ} → IsAnswer last (refusal 2 (n ∷ []))
-  refused : {n : ℕ} → 1 ≤ n → n ≤ last → (n ≡ 2 → ⊥) → IsAnswer last (refusal n [])
+-- The answers: an outcome 0 to 3 or a refusal from 1 on, each with exactly the values that it carries. Which frame 2 carries is in
+-- MalformedFrames.antt.
+pub data IsAnswer (highest : ℕ) : Meaning → Type 0 where
+  ended : IsAnswer highest (outcome 0 [])
+  calling : {a b c d : ℕ} → IsAnswer highest (outcome 1 (a ∷ b ∷ c ∷ d ∷ []))
+  delegate-calling : {a b c d : ℕ} → IsAnswer highest (outcome 2 (a ∷ b ∷ c ∷ d ∷ []))
+  paused : IsAnswer highest (outcome 3 [])
+  malformed : {n : ℕ} → IsAnswer highest (refusal 2 (n ∷ []))
+  refused : {n : ℕ} → 1 ≤ n → n ≤ highest → (n ≡ 2 → ⊥) → IsAnswer highest (refusal n [])
 
--- when an answer comes: before any step, in a step's place, with a step, or when the budget is done
+-- when an answer comes: before any step, in the place of a step, with a step that ends the call, or when the budget is done
 pub data When : Type 0 where
   atEntry : When
-  inStepsPlace : When
+  insteadOfStep : When
   withStep : When
   atBudget : When
 
--- 1, 2 and 3; 4 to 16 and 18; e0, e1, e2 and 17; e3
+-- 1, 2 and 3; 4 to 16 and 18; e0, e1, e2 and 17; e3. There are no other numbers, by `IsAnswer`.
 abbrev pub when : Meaning → When
 when (outcome n vs) = choose (eqb n 3) atBudget withStep
-when (refusal n vs) = choose (leb n 3) atEntry (choose (eqb n 17) withStep inStepsPlace)
+when (refusal n vs) = choose (leb n 3) atEntry (choose (eqb n 17) withStep insteadOfStep)
 
--- how an accepted step ends a call: END, SCCALL, or at 10^12 the clock
-pub data EndsCall : Finish → ℕ → Meaning → Type 0 where
-  by-end : {clk : ℕ} → EndsCall ends clk (outcome 0 [])
-  by-call : {clk : ℕ} {vs : List ℕ} → EndsCall (calls vs) clk (meaning (callee Calling vs))
-  by-delegate-call : {clk : ℕ} {vs : List ℕ} → EndsCall (delegates vs) clk (meaning (callee DelegateCalling vs))
-  by-clock : {clk : ℕ} → clockEnd ≤ clk → EndsCall goesOn clk (refusal 17 [])
+-- the answer of a call whose last step is accepted: by END, by SCCALL, at 10^12 by the clock, else by the budget
+pub data AnswersAfter : Finish → ℕ → Meaning → Type 0 where
+  by-end : {clk : ℕ} → AnswersAfter ends clk (outcome 0 [])
+  by-call : {clk : ℕ} {vs : List ℕ} → AnswersAfter (calls vs) clk (meaning (callee Calling vs))
+  by-delegate-call : {clk : ℕ} {vs : List ℕ} → AnswersAfter (delegates vs) clk (meaning (callee DelegateCalling vs))
+  by-clock : {clk : ℕ} → clockEnd ≤ clk → AnswersAfter goesOn clk (refusal 17 [])
+  by-budget : {clk : ℕ} → clk < clockEnd → AnswersAfter goesOn clk (outcome 3 [])
 
--- The next step from a snapshot: it is refused; it is accepted and ends the call, with what it leaves
+-- The next step from a snapshot: it is refused; or it is accepted and is a call's last, with what it leaves
 
 pub data StepRefused : Result (List Instruction) → Snapshot → Meaning → Type 0 where
   step-refused : {program : List Instruction} {s : Snapshot} {f : Refusal}
@@ -59,7 +61,7 @@ pub data StepRefused : Result (List Instruction) → Snapshot → Meaning → Ty
 pub data LastStep : Result (List Instruction) → Snapshot → Meaning → Snapshot → Type 0 where
   last-step : {program : List Instruction} {s : Snapshot} {a : Meaning} (n : Next numberCells)
       → step numberCells (environment program s) (stateOf s) ≡ pass n
-      → EndsCall (n .finish) (n .state .clk) a
+      → AnswersAfter (n .finish) (n .state .clk) a
       → LastStep (pass program) s a (snapshotAfter s (n .state))
 
 pub data GuardedStepRefused : Result (List Instruction) → GuardedSnapshot → Meaning → Type 0 where
@@ -73,47 +75,70 @@ pub data GuardedStepRefused : Result (List Instruction) → GuardedSnapshot → 
 pub data GuardedLastStep : Result (List Instruction) → GuardedSnapshot → Meaning → GuardedSnapshot → Type 0 where
   guarded-last-step : {program : List Instruction} {g : GuardedSnapshot} {a : Meaning} (n : GuardedNext numberCells markCells)
       → guardedStep numberCells markCells (environment program (g .plain)) (guardedStateOf g) ≡ passes n
-      → EndsCall (n .next .finish) (n .next .state .clk) a
+      → AnswersAfter (n .next .finish) (n .next .state .clk) a
       → GuardedLastStep (pass program) g a (guardedSnapshotAfter g (record { plain = n .next .state; marks = n .marks }))
+
+-- what no call changes: PSP, the storage address, and the lengths of the buffers
+pub record Kept (s t : Snapshot) : Type 0 where
+  pub psp : t .machine .psp ≡ s .machine .psp
+  pub storage : t .machine .«storage_addr» ≡ s .machine .«storage_addr»
+  pub addresses : length (t .addresses) ≡ length (s .addresses)
+  pub numbers : length (t .numbers) ≡ length (s .numbers)
+  pub tape : length (t .tape) ≡ length (s .tape)
+  pub output : length (t .output) ≡ length (s .output)
 
 -- A call with a budget, handed s, beside the calls of the same program and s with any budget
 
--- the call with budget k paused after k steps and left `before`, from where one step more ends the call
-pub record Ending {S : Type 0} (Last : S → Meaning → S → Type 0) (withBudget : ℕ → Called S) (c : Called S) : Type 0 where
+-- the call with budget k paused after k steps and left `before`, from where one more step was the last
+pub record OneStepMore {S : Type 0} (StepIsLast : S → Meaning → S → Type 0) (withBudget : ℕ → Called S) (c : Called S) : Type 0 where
   pub k : ℕ
   pub before : S
   pub counted : c .steps ≡ suc k
-  pub paused : withBudget k ≡ pausedAfter k before
-  pub last : Last before (c .answer) (c .left)
+  pub pausedBefore : withBudget k ≡ pausedAfter k before
+  pub lastStep : StepIsLast before (c .answer) (c .left)
 
+-- `plain` is the plain part of what is handed in, and `highest` the highest refusal
 pub record Promised
     {S : Type 0}
-    (last : ℕ)
-    (Refused : S → Meaning → Type 0)
-    (Last : S → Meaning → S → Type 0)
+    (plain : S → Snapshot)
+    (highest : ℕ)
+    (StepIsRefused : S → Meaning → Type 0)
+    (StepIsLast : S → Meaning → S → Type 0)
     (withBudget : ℕ → Called S)
     (budget : ℕ)
     (s : S)
     (c : Called S)
     : Type 0 where
-  pub same : c ≡ withBudget budget
-  pub answer : IsAnswer last (c .answer)
+  pub isCallWithBudget : c ≡ withBudget budget
+  pub answer : IsAnswer highest (c .answer)
   pub steps : c .steps ≤ budget
-  -- e3 exactly where the steps are the budget, and neither was the call refused at entry nor did its last step end it
-  pub paused : (c .answer ≡ outcome 3 []) ↔ ((c .steps ≡ budget) × (when (c .answer) ≡ atEntry → ⊥) × (when (c .answer) ≡ withStep → ⊥))
-  -- 1, 2 and 3: no step, and everything is as handed in
-  pub refusedAtEntry : when (c .answer) ≡ atEntry → (c .steps ≡ 0) × (c .left ≡ s)
+  -- clk counts the steps, refused calls included
+  pub clock : plain (c .left) .machine .clk ≡ plain s .machine .clk + c .steps
+  pub kept : Kept (plain s) (plain (c .left))
+  -- e3 exactly where the steps are the budget and nothing else answers: neither was the call refused at entry, nor did its last step end
+  -- it, by END, SCCALL or 17
+  pub pausedExactly : (c .answer ≡ outcome 3 [])
+      ↔ ((c .steps ≡ budget) × (when (c .answer) ≡ atEntry → ⊥) × (when (c .answer) ≡ withStep → ⊥))
+  -- 1, 2 and 3: no step is done
+  pub refusedAtEntry : when (c .answer) ≡ atEntry → c .steps ≡ 0
+  -- without a step, everything is as handed in
+  pub withoutStep : c .steps ≡ 0 → c .left ≡ s
   -- 4 to 16 and 18, after k steps: everything is as the call with budget k leaves it, which paused, and the step from there is refused
-  pub refusedAtStep : when (c .answer) ≡ inStepsPlace
-      → (c .steps < budget) × (withBudget (c .steps) ≡ pausedAfter (c .steps) (c .left)) × Refused (c .left) (c .answer)
-  -- e0, e1, e2 and 17, after k + 1 steps: the last is an accepted step from what the call with budget k left, which paused
-  pub endedByStep : when (c .answer) ≡ withStep → Ending Last withBudget c
+  pub refusedAtStep : when (c .answer) ≡ insteadOfStep
+      → (c .steps < budget) × (withBudget (c .steps) ≡ pausedAfter (c .steps) (c .left)) × StepIsRefused (c .left) (c .answer)
+  -- e0, e1, e2 and 17 come with a step, and so does e3 unless no step is done: an accepted one, from what the call with one less left
+  pub endedByStep : when (c .answer) ≡ withStep → OneStepMore StepIsLast withBudget c
+  pub pausedByStep : c .answer ≡ outcome 3 [] → (c .steps ≡ 0 → ⊥) → OneStepMore StepIsLast withBudget c
+  -- an answer other than e3 stays with every larger budget
+  pub settled : (more : ℕ) → (c .answer ≡ outcome 3 [] → ⊥) → withBudget (budget + more) ≡ c
 
+-- a plain call never gives 18
 abbrev pub PlainPromised : Result (List Instruction) → ℕ → Snapshot → Called Snapshot → Type 0
-PlainPromised program budget s c = Promised 17 (StepRefused program) (LastStep program) (λ k. plainCall program k s) budget s c
+PlainPromised program budget s c = Promised (λ s. s) 17 (StepRefused program) (LastStep program) (λ k. plainCall program k s) budget s c
 
 abbrev pub GuardedPromised : Result (List Instruction) → ℕ → GuardedSnapshot → Called GuardedSnapshot → Type 0
-GuardedPromised program budget g c = Promised 18 (GuardedStepRefused program) (GuardedLastStep program) (λ k. guardedCall program k g) budget g c
+GuardedPromised program budget g c =
+    Promised (λ g. g .plain) 18 (GuardedStepRefused program) (GuardedLastStep program) (λ k. guardedCall program k g) budget g c
 
 -- The theorem, for each public call: a step has budget 1, a check 0. A machine has ten registers by its type.
 pub record EveryCall : Type 0 where

@@ -11,7 +11,7 @@ use Rattle.rules.specs.declared.Refusal.the-variants.{BadState}
 use Rattle.rules.specs.Results.{Result, refuse, pass}
 use Rattle.rules.specs.Frames.{loadWords}
 use Rattle.rules.specs.Text.{loadText, loadBudgetText}
-use Rattle.rules.specs.Cells.{numberCells, markCells}
+use Rattle.rules.specs.Cells.{addresses, numberCells, markCells}
 use Rattle.rules.specs.PlainMap.{numberMap, markMap}
 use Rattle.rules.specs.Step.{State, RunEnd, run}
 use Rattle.rules.specs.Guarded.{GuardedState, guardedRun}
@@ -28,7 +28,8 @@ mapRun program budget s = run numberMap (environment program s) budget (mapState
 abbrev pub guardedMapRun : List Instruction → ℕ → GuardedSnapshot → RunEnd (GuardedState numberMap markMap)
 guardedMapRun program budget g = guardedRun numberMap markMap (environment program (g .plain)) budget (mapGuardedState (guardedStateOf g))
 
--- What a call gives. Of one that runs: the map's answer and steps, and the snapshot of a state that is the map's, its cells in rising order.
+-- What a call gives. Of one that runs: the map's answer and steps, and the snapshot of the one state that agrees with the map's and whose
+-- cells rise. In a guarded call the marks are those of the same addresses.
 
 pub data OnMap : Result (List Instruction) → ℕ → Snapshot → Called Snapshot → Type 0 where
   refused-program : {f : Refusal} {budget : ℕ} {s : Snapshot} → OnMap (refuse f) budget s (refusedCall f s)
@@ -44,6 +45,7 @@ pub data GuardedOnMap : Result (List Instruction) → ℕ → GuardedSnapshot �
       → GuardedOnMap (pass program) budget g (refusedCall BadState g)
   runs-guarded : {program : List Instruction} {budget : ℕ} {g : GuardedSnapshot} → guardedEntry g ≡ true
       → (q : GuardedState numberCells markCells) → SameGuardedState q (guardedMapRun program budget g .state)
+      → addresses (q .marks .cells) ≡ addresses (q .plain .cells)
       → GuardedOnMap (pass program) budget g
       (record {
         answer = meaning (guardedMapRun program budget g .answer);

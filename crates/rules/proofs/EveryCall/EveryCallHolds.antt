@@ -1,6 +1,6 @@
 -- The theorem: what demand 1 promises holds of every call.
-use Prim.Native.Nat.{ℕ}
-use mathlib.Core.Path.{_≡_, refl, sym, subst}
+use Prim.Native.Nat.{ℕ, _+_, _≤_}
+use mathlib.Core.Path.{_≡_, refl, sym, ap, subst}
 use mathlib.Core.Bool.{Bool, true, false}
 use mathlib.Core.List.{List, [], _∷_, map}
 use native.Mathlib.Omega.{arith}
@@ -13,15 +13,15 @@ use Rattle.rules.specs.Numbers.{choose}
 use Rattle.rules.specs.Results.{Result, refuse, pass}
 use Rattle.rules.specs.Frames.{framesAfter, loadFrames, loadWords}
 use Rattle.rules.specs.Text.{Line, Job, linesOf, frameOfLine, loadText, loadJob, loadBudgetText}
-use Rattle.rules.specs.Answers.{refusalMeaning}
+use Rattle.rules.specs.Answers.{Meaning, refusalMeaning}
 use Rattle.rules.specs.Entry.{Snapshot, GuardedSnapshot, plainEntry, guardedEntry}
 use Rattle.rules.specs.Calls.{Called, refusedCall, plainAnswered, plainRunOf, guardedAnswered, guardedRunOf, jobBudget, jobProgram, plainCall, plainWords, plainText, plainBudgetText, guardedCall, guardedWords, guardedText, guardedBudgetText}
-use Rattle.rules.specs.EveryCall.{atEntry, when, StepRefused, LastStep, GuardedStepRefused, GuardedLastStep, PlainPromised, GuardedPromised, EveryCall}
+use Rattle.rules.specs.EveryCall.{atEntry, when, Promised, PlainPromised, GuardedPromised, EveryCall}
 use Rattle.rules.proofs.EveryCall.Refusing.{Refusing, refusing-refused, passed, refusing-require}
 use Rattle.rules.proofs.EveryCall.Answers.{refusal-answers}
-use Rattle.rules.proofs.EveryCall.Promises.{CallEnd, entry-refused, promised}
-use Rattle.rules.proofs.EveryCall.PlainEnds.{plain-call-end}
-use Rattle.rules.proofs.EveryCall.GuardedEnds.{guarded-call-end}
+use Rattle.rules.proofs.EveryCall.Promises.{entry-refused, promised}
+use Rattle.rules.proofs.EveryCall.PlainEnds.{plain-entered}
+use Rattle.rules.proofs.EveryCall.GuardedEnds.{guarded-entered}
 
 -- A program is refused 1 or 2
 
@@ -55,44 +55,47 @@ budget-text-refused text = program-refused (refusing-require _ _ refl (job-refus
 
 -- Of any program that is refused so, or passes
 
-module _ (program : List Instruction) (budget : ℕ) where
-  abbrev PlainEnd : Snapshot → Called Snapshot → Type 0
-  PlainEnd s c = CallEnd 17 (StepRefused (pass program)) (LastStep (pass program)) (λ k. plainCall (pass program) k s) budget s c
+-- a call that is refused at entry, whatever its budget
+module _ {S : Type 0} (plain : S → Snapshot) (highest : ℕ) (l : 17 ≤ highest) (StepIsRefused : S → Meaning → Type 0) (StepIsLast : S → Meaning → S → Type 0) where
+  entry-promised : (withBudget : ℕ → Called S) (budget : ℕ) (s : S) (f : Refusal) → AtEntry f → ((n : ℕ) → withBudget n ≡ refusedCall f s)
+      → Promised plain highest StepIsRefused StepIsLast withBudget budget s (refusedCall f s)
+  entry-promised withBudget budget s f a h =
+      promised _ _ _ _ _ _ plain (sym (h budget)) (omega arith)
+      (record { psp = refl; storage = refl; addresses = refl; numbers = refl; tape = refl; output = refl })
+      (λ more _. h (budget + more))
+      (entry-refused (refusal-answers highest l f) a)
 
-  plain-end : (s : Snapshot) → length (s .machine .registers) ≡ 10 → PlainEnd s (plainCall (pass program) budget s)
-  unfolding plainCall refusalMeaning
-  plain-end s ten = go (plainEntry s) refl
-    where
-      go : (b : Bool) → plainEntry s ≡ b → PlainEnd s (plainCall (pass program) budget s)
-      go true e = plain-call-end program s ten e budget
-      go false e =
-          subst (λ b. PlainEnd s (choose b (plainAnswered s (plainRunOf program budget s)) (refusedCall BadState s))) (sym e)
-          (entry-refused (refusal-answers 17 (omega arith) BadState) refl)
+plain-unfit : (program : List Instruction) (s : Snapshot) → plainEntry s ≡ false → (n : ℕ) → plainCall (pass program) n s ≡ refusedCall BadState s
+unfolding plainCall
+plain-unfit program s e n = ap (λ b. choose b (plainAnswered s (plainRunOf program n s)) (refusedCall BadState s)) e
 
-  abbrev GuardedEnd : GuardedSnapshot → Called GuardedSnapshot → Type 0
-  GuardedEnd g c = CallEnd 18 (GuardedStepRefused (pass program)) (GuardedLastStep (pass program)) (λ k. guardedCall (pass program) k g) budget g c
-
-  guarded-end : (g : GuardedSnapshot) → length (g .plain .machine .registers) ≡ 10 → GuardedEnd g (guardedCall (pass program) budget g)
-  unfolding guardedCall refusalMeaning
-  guarded-end g ten = go (guardedEntry g) refl
-    where
-      go : (b : Bool) → guardedEntry g ≡ b → GuardedEnd g (guardedCall (pass program) budget g)
-      go true e = guarded-call-end program g ten e budget
-      go false e =
-          subst (λ b. GuardedEnd g (choose b (guardedAnswered g (guardedRunOf program budget g)) (refusedCall BadState g))) (sym e)
-          (entry-refused (refusal-answers 18 (omega arith) BadState) refl)
+guarded-unfit : (program : List Instruction) (g : GuardedSnapshot) → guardedEntry g ≡ false → (n : ℕ) → guardedCall (pass program) n g ≡ refusedCall BadState g
+unfolding guardedCall
+guarded-unfit program g e n = ap (λ b. choose b (guardedAnswered g (guardedRunOf program n g)) (refusedCall BadState g)) e
 
 plain-promised : (program : Result (List Instruction)) → Refusing AtEntry program → (budget : ℕ) (s : Snapshot) → length (s .machine .registers) ≡ 10
     → PlainPromised program budget s (plainCall program budget s)
 unfolding plainCall refusalMeaning
-plain-promised (refuse f) (refusing-refused a) budget s ten = promised _ _ _ _ _ _ refl (entry-refused (refusal-answers 17 (omega arith) f) a)
-plain-promised (pass program) passed budget s ten = promised _ _ _ _ _ _ refl (plain-end program budget s ten)
+plain-promised (refuse f) (refusing-refused a) budget s ten = entry-promised _ _ (omega arith) _ _ _ budget s f a (λ n. refl)
+plain-promised (pass program) passed budget s ten = go (plainEntry s) refl
+  where
+    go : (b : Bool) → plainEntry s ≡ b → PlainPromised (pass program) budget s (plainCall (pass program) budget s)
+    go true e = plain-entered program s ten e budget
+    go false e =
+        subst (PlainPromised (pass program) budget s) (sym (plain-unfit program s e budget))
+        (entry-promised _ _ (omega arith) _ _ _ budget s BadState refl (plain-unfit program s e))
 
 guarded-promised : (program : Result (List Instruction)) → Refusing AtEntry program → (budget : ℕ) (g : GuardedSnapshot)
     → length (g .plain .machine .registers) ≡ 10 → GuardedPromised program budget g (guardedCall program budget g)
 unfolding guardedCall refusalMeaning
-guarded-promised (refuse f) (refusing-refused a) budget g ten = promised _ _ _ _ _ _ refl (entry-refused (refusal-answers 18 (omega arith) f) a)
-guarded-promised (pass program) passed budget g ten = promised _ _ _ _ _ _ refl (guarded-end program budget g ten)
+guarded-promised (refuse f) (refusing-refused a) budget g ten = entry-promised _ _ (omega arith) _ _ _ budget g f a (λ n. refl)
+guarded-promised (pass program) passed budget g ten = go (guardedEntry g) refl
+  where
+    go : (b : Bool) → guardedEntry g ≡ b → GuardedPromised (pass program) budget g (guardedCall (pass program) budget g)
+    go true e = guarded-entered program g ten e budget
+    go false e =
+        subst (GuardedPromised (pass program) budget g) (sym (guarded-unfit program g e budget))
+        (entry-promised _ _ (omega arith) _ _ _ budget g BadState refl (guarded-unfit program g e))
 
 pub every-call : EveryCall
 unfolding plainWords plainText plainBudgetText guardedWords guardedText guardedBudgetText

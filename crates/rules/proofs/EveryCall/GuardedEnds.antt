@@ -1,26 +1,27 @@
 -- How a guarded call of a loaded program ends, from a start that passes entry.
-use Prim.Native.Nat.{ℕ, suc, _≤_}
+use Prim.Native.Nat.{ℕ, zero, suc, _+_, _≤_}
 use mathlib.Core.Path.{_≡_, refl, sym, ap, subst, _∙_}
 use mathlib.Core.Bool.{true}
-use mathlib.Core.List.{List}
+use mathlib.Core.List.{List, []}
 use native.Mathlib.Omega.{arith}
 use lib.ListN.{length}
 use Rattle.rules.specs.declared.Instruction.{Instruction}
 use Rattle.rules.specs.declared.Refusal.{Refusal}
 use Rattle.rules.specs.declared.Answer.{Answer}
-use Rattle.rules.specs.declared.Answer.the-variants.{Refused, MarkedSink}
+use Rattle.rules.specs.declared.Answer.the-variants.{Paused, Refused, MarkedSink}
 use Rattle.rules.specs.Results.{GuardedResult, refuses, sink, passes, pass}
 use Rattle.rules.specs.Cells.{count, numberCells, markCells}
 use Rattle.rules.specs.Step.{Environment, Finish, RunEnd}
 use Rattle.rules.specs.Guarded.{GuardedState, GuardedNext, guardedStep, onGuardedStep, guardedRun}
-use Rattle.rules.specs.Answers.{Meaning, meaning}
+use Rattle.rules.specs.Answers.{Meaning, outcome, meaning}
 use Rattle.rules.specs.Entry.{GuardedSnapshot, guardedEntry, environment, guardedStateOf, guardedSnapshotAfter}
-use Rattle.rules.specs.Calls.{Called, guardedAnswered, pausedAfter, guardedCall}
+use Rattle.rules.specs.Calls.{Called, guardedRunOf, guardedAnswered, pausedAfter, guardedCall}
 use Rattle.rules.specs.Relations.{BothGuarded, refused-alike, sink-alike, passed-alike}
 use Rattle.rules.specs.Soundness.{GuardedSound}
 use Rattle.rules.specs.Resumption.{guardedResumed}
-use Rattle.rules.specs.EveryCall.{IsAnswer, atEntry, inStepsPlace, withStep, atBudget, when, EndsCall, GuardedStepRefused, guarded-step-refused, at-sink, GuardedLastStep, guarded-last-step}
+use Rattle.rules.specs.EveryCall.{IsAnswer, atEntry, insteadOfStep, atBudget, when, AnswersAfter, Kept, GuardedPromised, GuardedStepRefused, guarded-step-refused, at-sink, GuardedLastStep, guarded-last-step}
 use Rattle.rules.specs.EveryCall as Spec
+use Rattle.rules.proofs.Laws.AnswerLaws.{paused-meaning}
 use Rattle.rules.proofs.Laws.Passing.{passing-guarded-at}
 use Rattle.rules.proofs.Soundness.GuardedSoundness.{guarded-step-sound, guarded-run-sound}
 use Rattle.rules.proofs.Soundness.EntrySoundness.{guarded-entry-sound}
@@ -29,11 +30,13 @@ use Rattle.rules.proofs.Resumption.Growth.{Grown, guarded-step-grows}
 use Rattle.rules.proofs.Resumption.WrittenBehind.{withWritten, behind, next-behind, guarded-behind, GuardedNextBehind, guarded-next-behind, guarded-step-behind}
 use Rattle.rules.proofs.Resumption.CallSplits.{guarded-twice, resumed-behind, guarded-passes, mark-count}
 use Rattle.rules.proofs.EveryCall.Refusing.{refusing-guarded-at}
-use Rattle.rules.proofs.EveryCall.StepAnswers.{guarded-stepped}
-use Rattle.rules.proofs.EveryCall.Answers.{refusal-answers, ending-answers, ending-when, ending-same}
-use Rattle.rules.proofs.EveryCall.RunEnds.{Decided, stops, accepts, onDecided, pausedRun, End, pauses, refused, ended, run-end}
-use Rattle.rules.proofs.EveryCall.Promises as Ends
-use Rattle.rules.proofs.EveryCall.Promises.{apart, CallEnd}
+use Rattle.rules.proofs.EveryCall.StepAnswers.{guarded-step-refuses}
+use Rattle.rules.proofs.EveryCall.Answers.{apart, refusal-answers, after-not-entry, after-same}
+use Rattle.rules.proofs.EveryCall.RunEnds.{Decided, stops, accepts, onDecided, pausedRun, End, waits, refused, stepped, run-end, run-settles, run-counts}
+use Rattle.rules.proofs.EveryCall.Ticks.{guarded-step-ticks}
+use Rattle.rules.proofs.EveryCall.Restored.{guarded-restored}
+use Rattle.rules.proofs.EveryCall.Promises as Calls
+use Rattle.rules.proofs.EveryCall.Promises.{CallEnd, after-step, promised}
 
 abbrev Guarded : Type 0
 Guarded = GuardedState numberCells markCells
@@ -82,24 +85,45 @@ module _ (e : Environment) where
   abbrev decide : Guarded → Decided Guarded
   decide q = decided (stepOf e q)
 
-  guarded-run-end : (n : ℕ) (q : Guarded) → End decide (guardedRun numberCells markCells e) n q (guardedRun numberCells markCells e n q)
-  unfolding guardedRun
-  guarded-run-end = run-end decide (guardedRun numberCells markCells e) (λ q. refl) (λ n q. on-same q (stepOf e q) (guardedRun numberCells markCells e n))
+  abbrev runOf : ℕ → Guarded → RunEnd Guarded
+  runOf = guardedRun numberCells markCells e
 
-  stopped-when : (q : Guarded) {a : Answer} → Stopped (stepOf e q) a → when (meaning a) ≡ inStepsPlace
+  zero-steps : (q : Guarded) → runOf zero q ≡ pausedRun zero q
+  unfolding guardedRun
+  zero-steps q = refl
+
+  more-steps : (n : ℕ) (q : Guarded) → runOf (suc n) q ≡ onDecided q (decide q) (runOf n)
+  unfolding guardedRun
+  more-steps n q = on-same q (stepOf e q) (runOf n)
+
+  guarded-end : (n : ℕ) (q : Guarded) → End decide runOf n q (runOf n q)
+  guarded-end = run-end decide runOf zero-steps more-steps
+
+  guarded-settles : (n more : ℕ) (q : Guarded) → (runOf n q .answer ≡ Paused → ⊥) → runOf (n + more) q ≡ runOf n q
+  guarded-settles = run-settles decide runOf zero-steps more-steps
+
+  ticks : (q : Guarded) (f : Finish) (clk : ℕ) (r : Guarded) → decide q ≡ accepts f clk r → r .plain .clk ≡ suc (q .plain .clk)
+  ticks q f clk r d =
+      let x = accepted (stepOf e q) d in
+      sym (ap (λ (r : Guarded). r .plain .clk) (x .state)) ∙ passing-guarded-at (guarded-step-ticks e q) (x .passes)
+
+  guarded-counts : (n : ℕ) (q : Guarded) → runOf n q .state .plain .clk ≡ q .plain .clk + runOf n q .steps
+  guarded-counts = run-counts decide runOf zero-steps more-steps (λ q. q .plain .clk) ticks
+
+  stopped-when : (q : Guarded) {a : Answer} → Stopped (stepOf e q) a → when (meaning a) ≡ insteadOfStep
   unfolding meaning
-  stopped-when q (by-refusal h) = refusing-guarded-at (guarded-stepped numberCells markCells e q) h
+  stopped-when q (by-refusal h) = refusing-guarded-at (guarded-step-refuses numberCells markCells e q) h
   stopped-when q (by-sink h) = refl
 
   -- no run gives 1, 2 or 3
-  past : {n : ℕ} {q : Guarded} {r : RunEnd Guarded} → End decide (guardedRun numberCells markCells e) n q r → when (meaning (r .answer)) ≡ atEntry → ⊥
+  past : {n : ℕ} {q : Guarded} {r : RunEnd Guarded} → End decide runOf n q r → when (meaning (r .answer)) ≡ atEntry → ⊥
   unfolding meaning
-  past pauses h = apart atBudget atEntry refl h (λ z. omega arith)
-  past (refused {t = t} l p d) h = apart inStepsPlace atEntry (stopped-when t (stopped (stepOf e t) d)) h (λ z. omega arith)
-  past (ended l p d k) h = apart withStep atEntry (ending-when k) h (λ z. omega arith)
+  past (waits b) h = apart atBudget atEntry refl h (λ z. omega arith)
+  past (refused {t = t} l p d) h = apart insteadOfStep atEntry (stopped-when t (stopped (stepOf e t) d)) h (λ z. omega arith)
+  past (stepped l p d k q) h = after-not-entry k h
 
   pub guarded-run-past : (n : ℕ) (q : Guarded) → when (meaning (guardedRun numberCells markCells e n q .answer)) ≡ atEntry → ⊥
-  guarded-run-past n q = past (guarded-run-end n q)
+  guarded-run-past n q = past (guarded-end n q)
 
 -- The same step from what the call with that much budget left: it sees the same, but for what is written behind the output
 
@@ -128,8 +152,8 @@ module _ (program : List Instruction) (g : GuardedSnapshot) (ten : length (g .pl
   abbrev withBudget : ℕ → Called GuardedSnapshot
   withBudget k = guardedCall (pass program) k g
 
-  abbrev Ended : ℕ → Called GuardedSnapshot → Type 0
-  Ended n c = CallEnd 18 (GuardedStepRefused (pass program)) (GuardedLastStep (pass program)) withBudget n g c
+  abbrev Ends : ℕ → Called GuardedSnapshot → Type 0
+  Ends n c = CallEnd 18 (GuardedStepRefused (pass program)) (GuardedLastStep (pass program)) withBudget n g c
 
   paused-call : {k : ℕ} {q : Guarded} → guardedRun numberCells markCells here k (guardedStateOf g) ≡ pausedRun k q
       → withBudget k ≡ pausedAfter k (guardedSnapshotAfter g q)
@@ -159,7 +183,7 @@ module _ (program : List Instruction) (g : GuardedSnapshot) (ten : length (g .pl
 
     last : {n m : GuardedNext numberCells markCells} → GuardedNextBehind (q .plain .written) n m → Grown (q .plain) (n .next .state)
         → count (q .marks .cells) ≤ count (n .marks .cells) → stepOf here (guardedResumed q) ≡ passes m
-        → {a : Meaning} → EndsCall (n .next .finish) (n .next .state .clk) a → GuardedLastStep (pass program) left a (guardedSnapshotAfter g (leftBy n))
+        → {a : Meaning} → AnswersAfter (n .next .finish) (n .next .state .clk) a → GuardedLastStep (pass program) left a (guardedSnapshotAfter g (leftBy n))
     last (guarded-next-behind {u = u} (next-behind {n} v b)) grown c h {a} d =
         let m : GuardedNext numberCells markCells = record { next = record { state = withWritten (n .state) v; finish = n .finish }; marks = u } in
         subst (GuardedLastStep (pass program) left a) (sym (guarded-twice g q {r = record { plain = n .state; marks = u }} grown c (guarded-behind (behind v b))))
@@ -173,7 +197,7 @@ module _ (program : List Instruction) (g : GuardedSnapshot) (ten : length (g .pl
         omega (arith, mark-count sound, mark-count (guarded-step-sound here q sound n h))
 
     step-is-last : (n : GuardedNext numberCells markCells) → stepOf here q ≡ passes n
-        → {a : Meaning} → EndsCall (n .next .finish) (n .next .state .clk) a → GuardedLastStep (pass program) left a (guardedSnapshotAfter g (leftBy n))
+        → {a : Meaning} → AnswersAfter (n .next .finish) (n .next .state .clk) a → GuardedLastStep (pass program) left a (guardedSnapshotAfter g (leftBy n))
     step-is-last n h d =
         let too = passes-too both-steps h in
         let grown = passing-guarded-at (guarded-step-grows here q (sound .plain)) h .1 in
@@ -184,17 +208,40 @@ module _ (program : List Instruction) (g : GuardedSnapshot) (ten : length (g .pl
   stopped-answers (by-refusal {f} h) = refusal-answers 18 (omega arith) f
   stopped-answers (by-sink h) = Spec.refused {n = 18} (omega arith) (omega arith) (λ e. omega arith)
 
-  call-end : (n : ℕ) {r : RunEnd Guarded} → End (decide here) (guardedRun numberCells markCells here) n (guardedStateOf g) r → Ended n (guardedAnswered g r)
+  -- with no step the state is the start's
+  no-step : {k : ℕ} {q : Guarded} → runOf here k (guardedStateOf g) ≡ pausedRun k q → k ≡ 0 → guardedSnapshotAfter g q ≡ g
+  no-step {k} {q} p z =
+      let r : runOf here 0 (guardedStateOf g) ≡ pausedRun k q = ap (λ k. runOf here k (guardedStateOf g)) (sym z) ∙ p in
+      let e : guardedStateOf g ≡ q = ap (λ (r : RunEnd Guarded). r .state) (sym (zero-steps here (guardedStateOf g)) ∙ r) in
+      ap (guardedSnapshotAfter g) (sym e) ∙ guarded-restored g enters
+
+  call-end : (n : ℕ) {r : RunEnd Guarded} → End (decide here) (runOf here) n (guardedStateOf g) r → Ends n (guardedAnswered g r)
   unfolding meaning
-  call-end n pauses = Ends.pauses
+  call-end n (waits b) = subst (λ t. Ends n (pausedAfter 0 t)) (sym (guarded-restored g enters)) (Calls.waits b)
   call-end n (refused {t = q} l p d) =
       let x = stopped (stepOf here q) d in
-      Ends.step-refused (stopped-answers x) (stopped-when here q x) l (paused-call p) (step-is-refused p (refused-too (both-steps p) x))
-  call-end n (ended {k} {t = q} {a = a} l p d e) =
+      Calls.step-refused (stopped-answers x) (stopped-when here q x) l (paused-call p) (no-step p) (step-is-refused p (refused-too (both-steps p) x))
+  call-end n (stepped {k} {t = q} {a = a} l p d e b) =
       let x = accepted (stepOf here q) d in
-      subst (λ u. Ended n (record { answer = meaning a; steps = suc k; left = guardedSnapshotAfter g u })) (x .state)
-      (Ends.step-ends (ending-answers 18 (omega arith) e) (ending-when e) l (paused-call p)
-      (step-is-last p (x .next) (x .passes) (ending-same (x .finish) (x .clock) e)))
+      subst (λ u. Ends n (record { answer = meaning a; steps = suc k; left = guardedSnapshotAfter g u })) (x .state)
+      (after-step _ _ _ _ _ _ (omega arith) e b l (paused-call p) (step-is-last p (x .next) (x .passes) (after-same (x .finish) (x .clock) e)))
 
-  pub guarded-call-end : (n : ℕ) → Ended n (withBudget n)
-  guarded-call-end n = subst (Ended n) (sym (guarded-passes program g n enters)) (call-end n (guarded-run-end here n (guardedStateOf g)))
+  sound-end : (n : ℕ) → GuardedSound here (guardedRunOf program n g .state)
+  sound-end n = guarded-run-sound here n (guardedStateOf g) (guarded-entry-sound program g ten enters)
+
+  kept : (n : ℕ) → Kept (g .plain) (guardedSnapshotAfter g (guardedRunOf program n g .state) .plain)
+  kept n =
+      let h = guarded-resumable program g (guardedRunOf program n g .state) enters (sound-end n) .plain in
+      record { psp = refl; storage = refl; addresses = h .addresses; numbers = h .numbers; tape = h .tape; output = h .output }
+
+  settled : (n more : ℕ) → (guardedAnswered g (guardedRunOf program n g) .answer ≡ outcome 3 [] → ⊥)
+      → withBudget (n + more) ≡ guardedAnswered g (guardedRunOf program n g)
+  settled n more h =
+      guarded-passes program g (n + more) enters
+      ∙ ap (guardedAnswered g) (guarded-settles here n more (guardedStateOf g) (λ e. h (ap meaning e ∙ paused-meaning)))
+
+  pub guarded-entered : (n : ℕ) → GuardedPromised (pass program) n g (withBudget n)
+  guarded-entered n =
+      subst (GuardedPromised (pass program) n g) (sym (guarded-passes program g n enters))
+      (promised _ _ _ _ _ _ (λ g. g .plain) (sym (guarded-passes program g n enters)) (guarded-counts here n (guardedStateOf g)) (kept n) (settled n)
+      (call-end n (guarded-end here n (guardedStateOf g))))

@@ -1,7 +1,6 @@
 -- Refusals 1, 2 and 3 are the entry's alone, and 17 is the clock's: a step is refused with one of 4 to 16, or at a sink.
 use Prim.Native.Nat.{ℕ, zero, suc, _-_}
 use mathlib.Core.Path.{_≡_, refl}
-use mathlib.Core.Bool.{Bool, true, false}
 use mathlib.Core.List.{List, [], _∷_}
 use lib.Dec.{ltb, eqb}
 use Rattle.rules.specs.declared.OlaOperand.{OlaOperand}
@@ -9,22 +8,19 @@ use Rattle.rules.specs.declared.OlaOperand.the-variants.{Absent, Immedia
 use Rattle.rules.specs.declared.Instruction.{Instruction}
 use Rattle.rules.specs.declared.Refusal.{Refusal}
 use Rattle.rules.specs.declared.Refusal.the-variants.{NoInstruction}
-use Rattle.rules.specs.declared.Answer.{Answer}
-use Rattle.rules.specs.Numbers.{clockEnd}
-use Rattle.rules.specs.Results.{Result, GuardedResult}
 use Rattle.rules.specs.Field.{fieldAdd, fieldMul}
 use Rattle.rules.specs.Memory.{Content, absent, present, Memory}
 use Rattle.rules.specs.Opcodes.{Class, addition, multiplication, equality, small, complement, move, assert, rangeCheck, jump, conditionalJump, call, return, load, store, tapeLoad, tapeStore, contractCall, end, uncovered}
 use Rattle.rules.specs.Operands.{binaryLength, instructionAt, fetch, Want, ignored, lacking, value, later, register, target, inField, valueOf, targetOf, absence, operand, Operands, operands}
-use Rattle.rules.specs.Step.{Environment, State, Next, Finish, goesOn, ends, calls, delegates, RunEnd, onClock, onFinish, r9, contentValue, read, readBelow, readMany, readSpan, storeMany, operate, capacity, step, onStep, run}
-use Rattle.rules.specs.Guarded.{MarkState, GuardedState, GuardedNext, guardedRest, guardedStep, onGuardedStep, guardedRun}
-use Rattle.rules.specs.Answers.{Meaning, outcome, refusal, refusalMeaning, meaning}
-use Rattle.rules.specs.EveryCall.{inStepsPlace, when}
-use Rattle.rules.proofs.EveryCall.Refusing.{Refusing, refusing-refused, passed, RefusingGuarded, refused-guarded, sink-guarded, passed-guarded, refusing-require, refusing-choose, refusing-bind, refusing-after, refusing-guard}
+use Rattle.rules.specs.Step.{Environment, State, Next, r9, contentValue, read, readBelow, readMany, readSpan, storeMany, operate, capacity, step}
+use Rattle.rules.specs.Guarded.{MarkState, GuardedState, guardedRest, guardedStep}
+use Rattle.rules.specs.Answers.{refusalMeaning}
+use Rattle.rules.specs.EveryCall.{insteadOfStep, when}
+use Rattle.rules.proofs.EveryCall.Refusing.{Refusing, refusing-refused, passed, RefusingGuarded, passed-guarded, refusing-require, refusing-choose, refusing-bind, refusing-after, refusing-guard}
 
 -- 4 to 16
 abbrev pub AtStep : Refusal → Type 0
-AtStep f = when (refusalMeaning f) ≡ inStepsPlace
+AtStep f = when (refusalMeaning f) ≡ insteadOfStep
 
 -- Fetch
 
@@ -154,9 +150,9 @@ module _ (numberMemory markMemory : Memory ℕ) where
 
     -- Steps
 
-    pub stepped : (s : State numberMemory) → Refusing AtStep (step numberMemory e s)
+    pub step-refuses : (s : State numberMemory) → Refusing AtStep (step numberMemory e s)
     unfolding step
-    stepped s =
+    step-refuses s =
         refusing-bind _ (fetched _ _) λ i.
         refusing-bind _ (operands-read _ _ _ i) λ o.
         refusing-bind _ (operated _ i s o) λ n.
@@ -168,9 +164,9 @@ module _ (numberMemory markMemory : Memory ℕ) where
         refusing-after _ (operated c i s o) λ n.
         refusing-guard _ (refusing-after _ (fitted n) λ n. passed-guarded)
 
-    pub guarded-stepped : (q : GuardedState numberMemory markMemory) → RefusingGuarded AtStep (guardedStep numberMemory markMemory e q)
+    pub guarded-step-refuses : (q : GuardedState numberMemory markMemory) → RefusingGuarded AtStep (guardedStep numberMemory markMemory e q)
     unfolding guardedStep
-    guarded-stepped q =
+    guarded-step-refuses q =
         refusing-after _ (fetched _ _) λ i.
         refusing-after _ (operands-read _ _ _ i) λ o.
         refusing-guard _ (guarded-rest _ _ i _ o)

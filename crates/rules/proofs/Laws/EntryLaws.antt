@@ -5,10 +5,10 @@ use mathlib.Core.Bool.{Bool, true, false, not, _||_}
 use mathlib.Core.List.{List, [], _∷_}
 use native.Mathlib.Omega.{arith}
 use native.Mathlib.Nat.{pow-succ'}
-use lib.Dec.{ltb, lit<}
+use lib.Dec.{ltb, eqb, lit<}
 use lib.ListN.{length, getD}
 use borrow.Author.Tests.{ltb-true, lt-ltb}
-use Rattle.rules.specs.Numbers.{p}
+use Rattle.rules.specs.Numbers.{p, bit}
 use Rattle.rules.specs.Entry.{lowBits, wordOfBits, markedBelow, all}
 use Rattle.rules.proofs.Laws.BoolLaws.{false-true, and-left, and-right, and-true}
 
@@ -74,3 +74,18 @@ pub word-below : (l : List Bool) → wordOfBits l < 2 ^ length l
 word-below [] = lit< tt
 word-below (true ∷ l) = let h : wordOfBits l < 2 ^ length l = word-below l in rw pow-succ' (omega arith)
 word-below (false ∷ l) = let h : wordOfBits l < 2 ^ length l = word-below l in rw pow-succ' (omega arith)
+
+-- the lowest bit is its number
+pub lowest-bit : (b : ℕ) → b < 2 → bit (eqb b 1) ≡ b
+lowest-bit zero h = refl
+lowest-bit (suc zero) h = refl
+lowest-bit (suc (suc b)) h = absurd (omega arith)
+
+-- the word of a word's bits is the word
+pub word-again : (n w : ℕ) → w < 2 ^ n → wordOfBits (lowBits n w) ≡ w
+word-again zero w h = omega arith
+word-again (suc n) w h =
+    let p = pow-succ' 2 n in
+    let g : wordOfBits (lowBits n (w / 2)) ≡ w / 2 = word-again n (w / 2) (omega arith) in
+    let l = lowest-bit (w % 2) (omega arith) in
+    omega arith

@@ -15,6 +15,7 @@ use Rattle.rules.specs.Entry.{Snapshot, GuardedSnapshot, plainEntry, gua
 use Rattle.rules.specs.Calls.{refusedCall, plainRunOf, guardedRunOf, plainAnswered, guardedAnswered, jobBudget, jobProgram, plainCall, plainWords, plainText, plainBudgetText, guardedCall, guardedWords, guardedText, guardedBudgetText}
 use Rattle.rules.specs.MapCalls.{OnMap, refused-program, unfit-state, runs, GuardedOnMap, refused-guarded, unfit-guarded, runs-guarded, MapCalls}
 use Rattle.rules.proofs.Laws.CellLaws.{rising-addresses}
+use Rattle.rules.proofs.Soundness.GuardedSoundness.{guarded-run-sound}
 use Rattle.rules.proofs.Soundness.EntrySoundness.{entry-sound, guarded-entry-sound}
 use Rattle.rules.proofs.MapAgreement.GuardedMapAgreement.{map-agreement}
 
@@ -42,7 +43,7 @@ guarded-entered program budget g ten true e =
     (record { plain = c; marks = rising-addresses 0 (q .marks .cells) (q .plain .cells) (w .addresses) c }) in
     subst (GuardedOnMap (pass program) budget g)
     (λ i. record { answer = meaning (sym (h .answer) i); steps = sym (h .steps) i; left = guardedSnapshotAfter g (guardedRunOf program budget g .state) })
-    (runs-guarded e (guardedRunOf program budget g .state) (h .state))
+    (runs-guarded e (guardedRunOf program budget g .state) (h .state) (guarded-run-sound (environment program (g .plain)) budget q w .addresses))
 
 -- Of any program as loaded
 
