@@ -13,7 +13,7 @@ use Rattle.rules.specs.Answers.{Meaning, refusalMeaning, meaning}
 use Rattle.report.specs.declared.label.Label.{Label}
 use Rattle.report.specs.declared.label.Label.the-variants as L
 use Rattle.report.specs.ReportLines.{Labels, outcome-label, refusal-label, frame-label}
-use Rattle.records.specs.Records.{machineOf, machineRecord, marksOf, marksRecord, RecordsKept, calleeOf, answerRecord}
+use Rattle.records.specs.Records.{machineOf, machineRecord, marksOf, marksRecord, RecordsKept, RecordsRead, calleeOf, answerRecord}
 
 -- n words from a place on
 abbrev listed : ℕ → ℕ → List ℕ → List ℕ
@@ -45,9 +45,13 @@ pub machine-listed : (r : List ℕ) → length r ≡ 20 → withArrays (machineO
 unfolding machineOf
 machine-listed r h = ap₂ (withArrays (machineOf r)) (listed-part 0 10 r (omega arith)) (listed-part 13 4 r (omega arith))
 
+arrays-listed : (m : Machine) → length (m .registers) ≡ 10 → length (m .«storage_addr») ≡ 4
+    → withArrays m (listed 0 10 (m .registers)) (listed 0 4 (m .«storage_addr»)) ≡ m
+arrays-listed m h k = ap₂ (withArrays m) (listed-all 10 (m .registers) h) (listed-all 4 (m .«storage_addr») k)
+
 pub record-listed : (m : Machine) → length (m .registers) ≡ 10 → length (m .«storage_addr») ≡ 4
     → machineRecord (withArrays m (listed 0 10 (m .registers)) (listed 0 4 (m .«storage_addr»))) ≡ machineRecord m
-record-listed m h k = ap machineRecord (ap₂ (withArrays m) (listed-all 10 (m .registers) h) (listed-all 4 (m .«storage_addr») k))
+record-listed m h k = ap machineRecord (arrays-listed m h k)
 
 machine-kept : (r : List ℕ) → length r ≡ 20 → machineRecord (machineOf r) ≡ r
 unfolding machineOf machineRecord
@@ -59,6 +63,15 @@ extras-kept r h = listed-all 1 r h
 
 pub records-kept : RecordsKept
 records-kept = record { machine = machine-kept; extras = extras-kept }
+
+machine-read : (m : Machine) → length (m .registers) ≡ 10 → length (m .«storage_addr») ≡ 4 → machineOf (machineRecord m) ≡ m
+unfolding machineOf machineRecord
+machine-read m h k =
+    sym (ap (λ (m : Machine). machineOf (machineRecord m)) (arrays-listed m h k)) ∙ arrays-listed m h k
+
+pub records-read : RecordsRead
+unfolding marksOf marksRecord
+records-read = record { machine = machine-read; extras = λ m. refl }
 
 -- the same answer has the same callee
 pub same-callee : {a known : Answer} → a ≡ known → calleeOf (meaning known) ≡ calleeOf (meaning a)

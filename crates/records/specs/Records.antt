@@ -41,6 +41,11 @@ pub record RecordsKept : Type 0 where
   pub machine : (r : List ℕ) → length r ≡ 20 → machineRecord (machineOf r) ≡ r
   pub extras : (r : List ℕ) → length r ≡ 1 → marksRecord (marksOf r) ≡ r
 
+-- and what a call leaves is what the next call reads; by its type a machine has ten registers and four words of storage address
+pub record RecordsRead : Type 0 where
+  pub machine : (m : Machine) → length (m .registers) ≡ 10 → length (m .«storage_addr») ≡ 4 → machineOf (machineRecord m) ≡ m
+  pub extras : (m : Marks) → marksOf (marksRecord m) ≡ m
+
 -- the four words of the callee that an outcome carries; 0 where there is none
 unfoldable pub calleeOf : Meaning → List ℕ
 calleeOf (outcome n vs) = getD vs 0 0 ∷ getD vs 1 0 ∷ getD vs 2 0 ∷ getD vs 3 0 ∷ []
