@@ -1,3 +1,4 @@
--- What the walks of this crate's functions share.
+-- What the walks of this crate's functions share; the statement about the guarded steps holds.
 pub mod Records
 pub mod Slices
+pub mod GuardedStepsHold
