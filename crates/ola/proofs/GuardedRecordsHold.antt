@@ -23,11 +23,12 @@ use Rattle.rules.specs.Calls.{Called, refusedCall, guardedRunOf, guardedAnswere
 use Rattle.rules.specs.Handed.{guardedSnapshot}
 use Rattle.rules.specs.NonInterference.{Alike, MarkedBelow, MeetsSink, SinkAfter, withoutMarks, pausedAfter, NonInterference}
 use Rattle.records.specs.Records.{machineOf, machineRecord, marksRecord, calleeOf, answerRecord}
-use Rattle.records.proofs.RecordLaws.{records-kept, records-read}
+use Rattle.records.proofs.RecordLaws.{records-kept}
+use Rattle.records.proofs.ReadingBack.{steps-read, records-read}
 use Rattle.executor.proofs.GuardedFunctionsHold.{non-interfering}
 use Rattle.ola.specs.Lent.{GuardedBuffers, guardedBuffers, plainLeft, guardedLeft}
 use Rattle.ola.specs.GuardedRecords.{guardedHanded, withAnswer, withGuardedAnswer, afterRun, afterGuardedRun, afterCheck, afterGuardedCheck, SaysSink, SaysSinkAfter, refusalWords, pausedWords, Sized, AlikeLent, SameLeft, NonInterferenceInRecords, NonInterferingInRecords}
-use Rattle.ola.proofs.SinkWords.{said-sink, said-steps, sink-words, says-sink}
+use Rattle.ola.proofs.SinkWords.{said-sink, sink-words, says-sink}
 
 -- What a call leaves is read back
 
@@ -87,7 +88,7 @@ module _ (program : Result (List Instruction)) (budget : ℕ) (g : GuardedSnapsh
 
   meets-after : (k : ℕ) → SaysSinkAfter k (answerRecord (guardedCall program budget g .answer) (guardedCall program budget g .steps))
       → SinkAfter k (guardedCall program budget g)
-  meets-after k h = (meets _ (h .0), sym (said-steps (guardedCall program budget g .answer) (guardedCall program budget g .steps)) ∙ h .1)
+  meets-after k h = (meets _ (h .0), sym (steps-read (guardedCall program budget g .answer) (guardedCall program budget g .steps)) ∙ h .1)
 
 -- Runs and steps
 

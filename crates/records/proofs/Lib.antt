@@ -1,2 +1,3 @@
--- Laws of the records.
+-- Laws of the records; the statement that nothing is lost in them holds.
 pub mod RecordLaws
+pub mod ReadingBack

@@ -13,7 +13,7 @@ use Rattle.rules.specs.Answers.{Meaning, refusalMeaning, meaning}
 use Rattle.report.specs.declared.label.Label.{Label}
 use Rattle.report.specs.declared.label.Label.the-variants as L
 use Rattle.report.specs.ReportLines.{Labels, outcome-label, refusal-label, frame-label}
-use Rattle.records.specs.Records.{machineOf, machineRecord, marksOf, marksRecord, RecordsKept, RecordsRead, calleeOf, answerRecord}
+use Rattle.records.specs.Records.{machineOf, machineRecord, marksOf, marksRecord, RecordsKept, calleeOf, answerRecord}
 
 -- n words from a place on
 abbrev listed : ℕ → ℕ → List ℕ → List ℕ
@@ -64,14 +64,9 @@ extras-kept r h = listed-all 1 r h
 pub records-kept : RecordsKept
 records-kept = record { machine = machine-kept; extras = extras-kept }
 
-machine-read : (m : Machine) → length (m .registers) ≡ 10 → length (m .«storage_addr») ≡ 4 → machineOf (machineRecord m) ≡ m
+pub machine-read : (m : Machine) → length (m .registers) ≡ 10 → length (m .«storage_addr») ≡ 4 → machineOf (machineRecord m) ≡ m
 unfolding machineOf machineRecord
-machine-read m h k =
-    sym (ap (λ (m : Machine). machineOf (machineRecord m)) (arrays-listed m h k)) ∙ arrays-listed m h k
-
-pub records-read : RecordsRead
-unfolding marksOf marksRecord
-records-read = record { machine = machine-read; extras = λ m. refl }
+machine-read m h k = sym (ap (λ (m : Machine). machineOf (machineRecord m)) (arrays-listed m h k)) ∙ arrays-listed m h k
 
 -- the same answer has the same callee
 pub same-callee : {a known : Answer} → a ≡ known → calleeOf (meaning known) ≡ calleeOf (meaning a)

@@ -3,9 +3,10 @@ use Prim.Native.Nat.{ℕ}
 use mathlib.Core.Path.{_≡_}
 use mathlib.Core.List.{List, [], _∷_, _++_}
 use lib.ListN.{length, getD, take, drop}
+use Rattle.rules.specs.declared.Answer.{Answer}
 use Rattle.rules.specs.declared.Machine.{Machine}
 use Rattle.rules.specs.declared.Marks.{Marks}
-use Rattle.rules.specs.Answers.{Meaning, outcome, refusal}
+use Rattle.rules.specs.Answers.{Meaning, outcome, refusal, meaning}
 
 -- the machine that a record holds
 unfoldable pub machineOf : List ℕ → Machine
@@ -41,11 +42,6 @@ pub record RecordsKept : Type 0 where
   pub machine : (r : List ℕ) → length r ≡ 20 → machineRecord (machineOf r) ≡ r
   pub extras : (r : List ℕ) → length r ≡ 1 → marksRecord (marksOf r) ≡ r
 
--- and what a call leaves is what the next call reads; by its type a machine has ten registers and four words of storage address
-pub record RecordsRead : Type 0 where
-  pub machine : (m : Machine) → length (m .registers) ≡ 10 → length (m .«storage_addr») ≡ 4 → machineOf (machineRecord m) ≡ m
-  pub extras : (m : Marks) → marksOf (marksRecord m) ≡ m
-
 -- the four words of the callee that an outcome carries; 0 where there is none
 unfoldable pub calleeOf : Meaning → List ℕ
 calleeOf (outcome n vs) = getD vs 0 0 ∷ getD vs 1 0 ∷ getD vs 2 0 ∷ getD vs 3 0 ∷ []
@@ -55,3 +51,10 @@ calleeOf (refusal n vs) = 0 ∷ 0 ∷ 0 ∷ 0 ∷ []
 unfoldable pub answerRecord : Meaning → ℕ → List ℕ
 answerRecord (outcome n vs) steps = 0 ∷ n ∷ steps ∷ 0 ∷ calleeOf (outcome n vs)
 answerRecord (refusal n vs) steps = 1 ∷ n ∷ steps ∷ getD vs 0 0 ∷ calleeOf (refusal n vs)
+
+-- Nothing is lost in a record. A machine and extras are read as they were written; by its type a machine has ten registers and four words of
+-- storage address. An answer, with all that it carries, and its steps have a record that no others have.
+pub record RecordsRead : Type 0 where
+  pub machine : (m : Machine) → length (m .registers) ≡ 10 → length (m .«storage_addr») ≡ 4 → machineOf (machineRecord m) ≡ m
+  pub extras : (m : Marks) → marksOf (marksRecord m) ≡ m
+  pub answer : (a b : Answer) (j k : ℕ) → answerRecord (meaning a) j ≡ answerRecord (meaning b) k → (a ≡ b) × (j ≡ k)
