@@ -3,7 +3,8 @@
 // Public: `step` over a lent `Machine`, and `guarded_step` over a lent `GuardedMachine`. They take any arguments and check them, as
 // `executor::plain::step_words` and `executor::guarded::step_words` do, whose definitions their contracts name; they touch nothing but the
 // record and the buffers that they are lent. `lend_and_step` and `lend_and_step_guarded` lend a record of their own to these two: they are
-// for callers that have a record by value.
+// for callers that have a record by value. Demand 3 of the guarded two is `NonInterferingInPlace` (specs/GuardedStepsInPlace.antt, proved in
+// proofs/GuardedStepsHold.antt).
 use rules::Answer;
 use rules::Machine;
 use rules::Marks;

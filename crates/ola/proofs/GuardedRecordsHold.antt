@@ -1,5 +1,5 @@
--- The theorem: demand 3 holds, in C's words, of each exported guarded function. It is had from demand 3 of the calls: what a call leaves in the
--- records is read back as the call left it, and the words of its answer say 18 exactly where it meets 18.
+-- The theorem: demand 3 holds, in C's words, of each exported guarded function. It follows from demand 3 of the calls: what a call leaves in the
+-- records is read back as it was left, and the words of an answer say 18 exactly where the call meets 18.
 use Prim.Native.Nat.{ℕ}
 use mathlib.Core.Path.{_≡_, refl, sym, ap, ap₂, subst, _∙_}
 use mathlib.Core.Bool.{Bool, true, false}
@@ -26,6 +26,7 @@ use Rattle.records.specs.Records.{machineOf, machineRecord, marksRecord, callee
 use Rattle.records.proofs.RecordLaws.{records-kept}
 use Rattle.records.proofs.ReadingBack.{steps-read, records-read}
 use Rattle.executor.proofs.GuardedFunctionsHold.{non-interfering}
+use Rattle.machine.proofs.GuardedStepsHold.{non-interfering-in-place}
 use Rattle.ola.specs.Lent.{GuardedBuffers, guardedBuffers, plainLeft, guardedLeft}
 use Rattle.ola.specs.GuardedRecords.{guardedHanded, withAnswer, withGuardedAnswer, afterRun, afterGuardedRun, afterCheck, afterGuardedCheck, SaysSink, SaysSinkAfter, refusalWords, pausedWords, Sized, AlikeLent, SameLeft, NonInterferenceInRecords, NonInterferingInRecords}
 use Rattle.ola.proofs.SinkWords.{said-sink, sink-words, says-sink}
@@ -51,7 +52,7 @@ unfolding machineOf
 four-words b s =
     length-take-le 4 (drop 13 (b .plain .machine)) (let d = length-drop 13 (b .plain .machine) in let l = s .machine in omega arith)
 
--- What the records need of a call beside demand 3: its answer is one of document 01's, and it keeps the storage address
+-- What is needed of a call beside demand 3: its answer is one that the table of answers has, and it keeps the storage address
 
 answered : (program : Result (List Instruction)) (budget : ℕ) (g : GuardedSnapshot) → (a : Answer) × (guardedCall program budget g .answer ≡ meaning a)
 unfolding guardedCall meaning
@@ -151,7 +152,7 @@ module _ (program : Result (List Instruction)) (budget : ℕ) (h : NonInterferen
         clean = λ b unmarked says. h .clean (guardedHanded b) unmarked (meets program budget (guardedHanded b) _ says);
       }
 
--- Checks: a call with budget 0 never meets 18
+-- Checks: with budget 0 no call meets 18
 
 module _ (program : Result (List Instruction)) (h : NonInterference program 0 (guardedCall program 0) (plainCall program)) where
   never : (g : GuardedSnapshot) → SaysSink (answerRecord (guardedCall program 0 g .answer) 0) → ⊥
@@ -185,13 +186,14 @@ module _ (program : Result (List Instruction)) (h : NonInterference program 0 (g
         clean = λ b unmarked says. never (guardedHanded b) says;
       }
 
+-- each from demand 3 of the function that it calls
 pub non-interfering-in-records : NonInterferingInRecords
 unfolding plainWords plainText guardedWords guardedText guardedBudgetText
 non-interfering-in-records =
     let h = non-interfering in
     record {
       runWords = λ words budget. run-holds (loadWords words) budget (h .runWords words budget);
-      stepWords = λ words. run-holds (loadWords words) 1 (h .stepWords words);
+      stepWords = λ words. run-holds (loadWords words) 1 (non-interfering-in-place .lendAndStepGuarded words);
       runText = λ text budget. run-holds (loadText text) budget (h .runText text budget);
       runBudgetText = λ text. run-holds (jobProgram (loadBudgetText text)) (jobBudget (loadBudgetText text)) (h .runBudgetText text);
       checkWords = λ words. check-holds (loadWords words) (h .checkWords words);

@@ -1,4 +1,4 @@
--- Demand 3 in C's words: of the records and buffers that an exported guarded function is lent, as they stand before its call and after.
+-- Demand 3 in C's words: of the records and buffers that an exported guarded function is lent, as they stand before the call and after it.
 use Prim.Native.Nat.{ℕ, _<_}
 use mathlib.Core.Path.{_≡_}
 use mathlib.Core.Bool.{true, false}
@@ -16,7 +16,7 @@ use Rattle.rules.specs.NonInterference.{Alike, MarkedBelow, Unmarked, Reaches}
 use Rattle.records.specs.Records.{machineOf, marksOf, answerRecord}
 use Rattle.ola.specs.Lent.{Buffers, GuardedBuffers, buffers, plainLeft, guardedLeft}
 
--- What a call reads of what it is lent: the machine and the extras that the records hold, and the buffers
+-- What a function reads of what it is lent: the machine and the extras that the records hold, and the buffers; not the answer
 
 abbrev pub plainHanded : Buffers → Snapshot
 plainHanded b = snapshot (machineOf (b .machine)) (b .addresses) (b .numbers) (b .tape) (b .output)
@@ -42,7 +42,7 @@ afterRun call b = plainLeft (call (plainHanded b))
 abbrev pub afterGuardedRun : (GuardedSnapshot → Called GuardedSnapshot) → GuardedBuffers → GuardedBuffers
 afterGuardedRun call b = guardedLeft (call (guardedHanded b))
 
--- a check: it writes an answer and nothing else
+-- a check, which only reads all but its answer
 abbrev pub afterCheck : (Snapshot → Called Snapshot) → Buffers → Buffers
 afterCheck call b = withAnswer (answerRecord (call (plainHanded b) .answer) 0) b
 
@@ -65,22 +65,24 @@ refusalWords n k = 1 ∷ n ∷ k ∷ 0 ∷ 0 ∷ 0 ∷ 0 ∷ 0 ∷ []
 abbrev pub pausedWords : ℕ → List ℕ
 pausedWords k = 0 ∷ 3 ∷ k ∷ 0 ∷ 0 ∷ 0 ∷ 0 ∷ 0 ∷ []
 
--- the records' lengths, which C's functions have by type
+-- Two calls
+
+-- the lengths of the records, which the functions have by type
 pub record Sized (b : GuardedBuffers) : Type 0 where
   pub machine : length (b .plain .machine) ≡ 20
   pub extras : length (b .extras) ≡ 1
 
--- 'Alike': as a call reads them
+-- alike as the functions read them
 pub record AlikeLent (b c : GuardedBuffers) : Type 0 where
   pub sized : Sized b × Sized c
   pub read : Alike (guardedHanded b) (guardedHanded c)
 
--- the same answer, word for word, and the rest alike, so that the next call reads it alike
+-- the same answer, word for word, and all else alike as the next call reads it
 pub record SameLeft (b c : GuardedBuffers) : Type 0 where
   pub answer : b .plain .answer ≡ c .plain .answer
   pub rest : AlikeLent b c
 
--- `NonInterference`, field for field, of functions from what they are lent to what they leave in it
+-- `NonInterference`, field for field, of functions that take what is lent to what stands there after the call
 pub record NonInterferenceInRecords
     (program : Result (List Instruction))
     (budget : ℕ)
@@ -107,7 +109,7 @@ pub record NonInterferenceInRecords
   -- no answer says 18 where nothing is marked
   pub clean : (b : GuardedBuffers) → Unmarked (guardedHanded b) → SaysSink (guarded b .plain .answer) → ⊥
 
--- each exported guarded function: what its contract says that it leaves
+-- each exported guarded function: of what its contract says that it leaves
 pub record NonInterferingInRecords : Type 0 where
   pub runWords : (words : List ℕ) (budget : ℕ)
       → NonInterferenceInRecords (loadWords words) budget (afterGuardedRun (guardedWords words budget)) (λ k. afterRun (plainWords words k))
@@ -119,7 +121,7 @@ pub record NonInterferingInRecords : Type 0 where
   pub runBudgetText : (text : List ℕ)
       → NonInterferenceInRecords (jobProgram (loadBudgetText text)) (jobBudget (loadBudgetText text)) (afterGuardedRun (guardedBudgetText text))
       (λ k. afterRun (plainCall (jobProgram (loadBudgetText text)) k))
-  -- the checks are calls with budget 0, of which the answer alone is written: so none says 18
+  -- the checks are calls with budget 0, of which the answer alone is written; no k is below 0, so none says 18
   pub checkWords : (words : List ℕ)
       → NonInterferenceInRecords (loadWords words) 0 (afterGuardedCheck (guardedWords words 0)) (λ k. afterCheck (plainWords words k))
   pub checkText : (text : List ℕ)

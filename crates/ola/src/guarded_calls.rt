@@ -1,4 +1,7 @@
 // The guarded calls. Beside the machine's record, a guarded call has one of its extras.
+//
+// Demand 3 of each of them, in the words of these records, is `NonInterferingInRecords` (specs/GuardedRecords.antt, proved in
+// proofs/GuardedRecordsHold.antt).
 use machine::GuardedMachine;
 use records::answer_record;
 use records::machine_of;

@@ -1,4 +1,5 @@
-// The records for C: a machine as 20 words, a guarded run's extras as 1, an answer as 8. specs/Records.antt has what each word is.
+// The records for C: a machine as 20 words, a guarded run's extras as 1, an answer as 8. specs/Records.antt has what each word is,
+// and that nothing is lost in a record (`RecordsRead`).
 //
 // Internal, for crate `ola`, and for any arguments.
 use report::label::Label;
