@@ -4,7 +4,7 @@ pub mod Ticks
 pub mod Restored
 pub mod Refusing
 pub mod StepAnswers
-pub mod Answers
+pub mod AnswerTimes
 pub mod Promises
 pub mod PlainEnds
 pub mod GuardedEnds

@@ -18,7 +18,7 @@ use Rattle.rules.specs.Entry.{Snapshot, GuardedSnapshot, plainEntry, gua
 use Rattle.rules.specs.Calls.{Called, refusedCall, plainAnswered, plainRunOf, guardedAnswered, guardedRunOf, jobBudget, jobProgram, plainCall, plainWords, plainText, plainBudgetText, guardedCall, guardedWords, guardedText, guardedBudgetText}
 use Rattle.rules.specs.EveryCall.{atEntry, when, Promised, PlainPromised, GuardedPromised, EveryCall}
 use Rattle.rules.proofs.EveryCall.Refusing.{Refusing, refusing-refused, passed, refusing-require}
-use Rattle.rules.proofs.EveryCall.Answers.{refusal-answers}
+use Rattle.rules.proofs.EveryCall.AnswerTimes.{refusal-answers}
 use Rattle.rules.proofs.EveryCall.Promises.{entry-refused, promised}
 use Rattle.rules.proofs.EveryCall.PlainEnds.{plain-entered}
 use Rattle.rules.proofs.EveryCall.GuardedEnds.{guarded-entered}

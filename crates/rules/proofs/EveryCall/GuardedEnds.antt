@@ -31,7 +31,7 @@ use Rattle.rules.proofs.Resumption.WrittenBehind.{withWritten, behind, 
 use Rattle.rules.proofs.Resumption.CallSplits.{guarded-twice, resumed-behind, guarded-passes, mark-count}
 use Rattle.rules.proofs.EveryCall.Refusing.{refusing-guarded-at}
 use Rattle.rules.proofs.EveryCall.StepAnswers.{guarded-step-refuses}
-use Rattle.rules.proofs.EveryCall.Answers.{apart, refusal-answers, after-not-entry, after-same}
+use Rattle.rules.proofs.EveryCall.AnswerTimes.{apart, refusal-answers, after-not-entry, after-same}
 use Rattle.rules.proofs.EveryCall.RunEnds.{Decided, stops, accepts, onDecided, pausedRun, End, waits, refused, stepped, run-end, run-settles, run-counts}
 use Rattle.rules.proofs.EveryCall.Ticks.{guarded-step-ticks}
 use Rattle.rules.proofs.EveryCall.Restored.{guarded-restored}

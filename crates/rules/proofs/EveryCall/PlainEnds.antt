@@ -30,7 +30,7 @@ use Rattle.rules.proofs.Resumption.WrittenBehind.{withWritten, behind, 
 use Rattle.rules.proofs.Resumption.CallSplits.{left-twice, resumed-behind, plain-passes}
 use Rattle.rules.proofs.EveryCall.Refusing.{refusing-at}
 use Rattle.rules.proofs.EveryCall.StepAnswers.{step-refuses}
-use Rattle.rules.proofs.EveryCall.Answers.{apart, refusal-answers, after-not-entry, after-same}
+use Rattle.rules.proofs.EveryCall.AnswerTimes.{apart, refusal-answers, after-not-entry, after-same}
 use Rattle.rules.proofs.EveryCall.RunEnds.{Decided, stops, accepts, onDecided, pausedRun, End, waits, refused, stepped, run-end, run-settles, run-counts}
 use Rattle.rules.proofs.EveryCall.Ticks.{step-ticks}
 use Rattle.rules.proofs.EveryCall.Restored.{restored}

@@ -8,7 +8,7 @@ use Rattle.rules.specs.Answers.{Meaning, outcome, meaning}
 use Rattle.rules.specs.Entry.{Snapshot}
 use Rattle.rules.specs.Calls.{Called, pausedAfter}
 use Rattle.rules.specs.EveryCall.{IsAnswer, ended, calling, delegate-calling, paused, When, atEntry, insteadOfStep, withStep, atBudget, when, AnswersAfter, by-end, by-call, by-delegate-call, by-clock, by-budget, Kept, Promised}
-use Rattle.rules.proofs.EveryCall.Answers.{place, apart, numbered}
+use Rattle.rules.proofs.EveryCall.AnswerTimes.{place, apart, numbered}
 
 module _ {S : Type 0} (highest : ℕ) (StepIsRefused : S → Meaning → Type 0) (StepIsLast : S → Meaning → S → Type 0) (withBudget : ℕ → Called S) (budget : ℕ) (s : S) where
   pub data CallEnd : Called S → Type 0 where
