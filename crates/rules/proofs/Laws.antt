@@ -10,3 +10,4 @@ pub mod FirstWords
 pub mod DecodedRegisters
 pub mod Relational
 pub mod Passing
+pub mod Callees

@@ -2,3 +2,6 @@
 pub mod WrittenPlaces
 pub mod MarksFollow
 pub mod SinksExact
+pub mod StepsByRules
+pub mod RunsByRules
+pub mod CallsByRules

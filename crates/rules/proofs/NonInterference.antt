@@ -4,7 +4,6 @@ pub mod AlikeSteps
 pub mod AlikeRuns
 pub mod AlikeSnapshots
 pub mod GuardedBesidePlain
-pub mod SinkRuns
 pub mod CleanRuns
 pub mod NonInterferenceHolds
 pub mod WitnessesHold

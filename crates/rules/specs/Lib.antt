@@ -17,12 +17,15 @@ pub mod Entry
 pub mod Calls
 pub mod Handed
 pub mod Solve
--- statements about them: the frame of refusal 2, kilosteps, demand 3, the plain map, soundness
+-- statements about them: the frame of refusal 2, kilosteps, marks and sinks, demand 3, the plain map, soundness
 pub mod EveryCall
 pub mod MalformedFrames
 pub mod NearestThousand
 pub mod MarkRules
 pub mod SinkRules
+pub mod DecodedRegisters
+pub mod GuardedSteps
+pub mod GuardedRuns
 pub mod NonInterference
 pub mod Witnesses
 pub mod Relations

@@ -8,9 +8,11 @@ use Rattle.rules.specs.declared.OlaOperand.{OlaOperand}
 use Rattle.rules.specs.declared.OlaOperand.the-variants.{Immediate, Register, RegisterWithOffset, RegisterWithFactor, Psp}
 use Rattle.rules.specs.declared.Instruction.{Instruction}
 use Rattle.rules.specs.Field.{fieldAdd}
-use Rattle.rules.specs.Cells.{numberCells}
+use Rattle.rules.specs.Cells.{numberCells, markCells}
 use Rattle.rules.specs.Operands.{Operands}
 use Rattle.rules.specs.Step.{State, r9, tapeValues}
+use Rattle.rules.specs.Guarded.{registerMark, MarkState, cellMark}
+use Rattle.rules.specs.Entry.{GuardedSnapshot, guardedStateOf}
 
 pub data Place : Type 0 where
   register : ℕ → Place
@@ -19,6 +21,14 @@ pub data Place : Type 0 where
 -- which places are marked
 abbrev pub Marking : Type 0
 Marking = Place → Bool
+
+-- which ones a guarded state marks, and which ones a snapshot
+abbrev pub markingOf : MarkState markCells → Marking
+markingOf t (register r) = registerMark (t .registers) r
+markingOf t (cell a) = cellMark markCells (t .cells) a
+
+abbrev pub snapshotMarks : GuardedSnapshot → Marking
+snapshotMarks g = markingOf (guardedStateOf g .marks)
 
 -- an operand is marked where its register is; immediates and PSP are unmarked
 pub data OperandMarked (t : Marking) : OlaOperand → Bool → Type 0 where

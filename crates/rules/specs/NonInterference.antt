@@ -9,13 +9,12 @@ use Rattle.rules.specs.declared.Instruction.{Instruction}
 use Rattle.rules.specs.declared.Refusal.the-variants.{BadState}
 use Rattle.rules.specs.Numbers.{p}
 use Rattle.rules.specs.Results.{Result, pass}
-use Rattle.rules.specs.Cells.{numberCells, markCells, get, zipped}
+use Rattle.rules.specs.Cells.{numberCells}
 use Rattle.rules.specs.Step.{State}
-use Rattle.rules.specs.Guarded.{registerMark, contentMark}
 use Rattle.rules.specs.Answers.{refusal}
 use Rattle.rules.specs.Entry.{Snapshot, GuardedSnapshot, usedAddresses, usedNumbers, usedTape, usedOutput, usedMarks, markedRegisters, markedCells, marksEntry, guardedEntry, environment, stateOf}
 use Rattle.rules.specs.Calls.{Called, refusedCall, pausedAfter}
-use Rattle.rules.specs.MarkRules.{register, cell, Marking}
+use Rattle.rules.specs.MarkRules.{Marking, snapshotMarks}
 use Rattle.rules.specs.SinkRules.{ReachesSink, Comes}
 
 -- 'Marked': a register, or a used cell, whose mark is 1
@@ -87,16 +86,11 @@ SinkAfter k c = MeetsSink c × (c .steps ≡ k)
 abbrev pub withoutMarks : Called GuardedSnapshot → Called Snapshot
 withoutMarks c = record { answer = c .answer; steps = c .steps; left = c .left .plain }
 
--- the marks that a snapshot starts with
-abbrev pub startMarks : GuardedSnapshot → Marking
-startMarks g (register r) = registerMark (markedRegisters g) r
-startMarks g (cell a) = contentMark markCells (get (zipped (usedAddresses (g .plain)) (usedMarks g)) a)
-
 -- 'Reaches a listed use': the call passes entry, comes to a state after k steps, and the next step reaches a sink
 pub data Reaches : Result (List Instruction) → GuardedSnapshot → ℕ → Type 0 where
   reaches : {program : List Instruction} {g : GuardedSnapshot} {k : ℕ} {s : State numberCells} {t : Marking}
       → guardedEntry g ≡ true
-      → Comes (environment program (g .plain)) (stateOf (g .plain)) (startMarks g) k s t
+      → Comes (environment program (g .plain)) (stateOf (g .plain)) (snapshotMarks g) k s t
       → ReachesSink (environment program (g .plain)) s t
       → Reaches (pass program) g k
 

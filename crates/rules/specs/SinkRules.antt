@@ -11,7 +11,7 @@ use Rattle.rules.specs.Results.{pass}
 use Rattle.rules.specs.Cells.{numberCells}
 use Rattle.rules.specs.Opcodes.{classOf}
 use Rattle.rules.specs.Operands.{fetch, valueOf, Operands, operands}
-use Rattle.rules.specs.Step.{Environment, State, goesOn, r9, readBelow, readSpan, step}
+use Rattle.rules.specs.Step.{Environment, State, Finish, goesOn, r9, readBelow, readSpan, step}
 use Rattle.rules.specs.MarkRules.{Place, register, cell, Marking, OperandMarked, MarkedAfter}
 
 -- the opcodes that the list names together
@@ -83,18 +83,17 @@ pub data ReachesSink (e : Environment) (s : State numberCells) (t : Marking) : T
   reading : {i : Instruction} {o : Operands} → InstructionRead e s i o → (OperandSink t i (i .opcode) → ⊥)
       → ReadSink t i e s o (i .opcode) → ReachesSink e s t
 
--- an accepted step that lets the run go on: the plain step, at no sink, with the marks that the rules give
-pub record AcceptedStep (e : Environment) (s : State numberCells) (t : Marking) (s′ : State numberCells) (t′ : Marking) : Type 0 where
+-- an accepted step, whether it goes on, ends, calls or delegates: the plain step, at no sink, with the marks that the rules give
+pub record AcceptedStep (e : Environment) (s : State numberCells) (t : Marking) (f : Finish) (s′ : State numberCells) (t′ : Marking) : Type 0 where
   pub instruction : Instruction
   pub operands : Operands
   pub fetched : InstructionRead e s instruction operands
   pub noSink : ReachesSink e s t → ⊥
-  pub next : step numberCells e s ≡ pass (record { state = s′; finish = goesOn })
-  pub clock : s′ .clk < clockEnd
+  pub next : step numberCells e s ≡ pass (record { state = s′; finish = f })
   pub marks : (x : Place) → MarkedAfter t instruction s operands (instruction .opcode) x (t′ x)
 
--- the guarded run comes to a state after k steps
+-- the guarded run comes to a state after k steps: each one goes on, and leaves clk below the clock's end
 pub data Comes (e : Environment) : State numberCells → Marking → ℕ → State numberCells → Marking → Type 0 where
   start : {s : State numberCells} {t : Marking} → Comes e s t 0 s t
   onward : {s s′ s″ : State numberCells} {t t′ t″ : Marking} {k : ℕ}
-      → AcceptedStep e s t s′ t′ → Comes e s′ t′ k s″ t″ → Comes e s t (suc k) s″ t″
+      → AcceptedStep e s t goesOn s′ t′ → s′ .clk < clockEnd → Comes e s′ t′ k s″ t″ → Comes e s t (suc k) s″ t″

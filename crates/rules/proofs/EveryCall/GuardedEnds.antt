@@ -13,7 +13,7 @@ use Rattle.rules.specs.Results.{GuardedResult, refuses, sink, passes, pa
 use Rattle.rules.specs.Cells.{count, numberCells, markCells}
 use Rattle.rules.specs.Step.{Environment, Finish, RunEnd}
 use Rattle.rules.specs.Guarded.{GuardedState, GuardedNext, guardedStep, onGuardedStep, guardedRun}
-use Rattle.rules.specs.Answers.{Meaning, outcome, meaning}
+use Rattle.rules.specs.Answers.{Meaning, outcome, meaning, refusalMeaning}
 use Rattle.rules.specs.Entry.{GuardedSnapshot, guardedEntry, environment, guardedStateOf, guardedSnapshotAfter}
 use Rattle.rules.specs.Calls.{Called, guardedRunOf, guardedAnswered, pausedAfter, guardedCall}
 use Rattle.rules.specs.Relations.{BothGuarded, refused-alike, sink-alike, passed-alike}
@@ -30,7 +30,7 @@ use Rattle.rules.proofs.Resumption.Growth.{Grown, guarded-step-grows}
 use Rattle.rules.proofs.Resumption.WrittenBehind.{withWritten, behind, next-behind, guarded-behind, GuardedNextBehind, guarded-next-behind, guarded-step-behind}
 use Rattle.rules.proofs.Resumption.CallSplits.{guarded-twice, resumed-behind, guarded-passes, mark-count}
 use Rattle.rules.proofs.EveryCall.Refusing.{refusing-guarded-at}
-use Rattle.rules.proofs.EveryCall.StepAnswers.{guarded-step-refuses}
+use Rattle.rules.proofs.EveryCall.StepAnswers.{of-step, guarded-step-refuses}
 use Rattle.rules.proofs.EveryCall.AnswerTimes.{apart, refusal-answers, after-not-entry, after-same}
 use Rattle.rules.proofs.EveryCall.RunEnds.{Decided, stops, accepts, onDecided, pausedRun, End, waits, refused, stepped, run-end, run-settles, run-counts}
 use Rattle.rules.proofs.EveryCall.Ticks.{guarded-step-ticks}
@@ -112,7 +112,7 @@ module _ (e : Environment) where
 
   stopped-when : (q : Guarded) {a : Answer} → Stopped (stepOf e q) a → when (meaning a) ≡ insteadOfStep
   unfolding meaning
-  stopped-when q (by-refusal h) = refusing-guarded-at (guarded-step-refuses numberCells markCells e q) h
+  stopped-when q (by-refusal {f} h) = of-step (refusalMeaning f) (refusing-guarded-at (guarded-step-refuses numberCells markCells e q) h)
   stopped-when q (by-sink h) = refl
 
   -- no run gives 1, 2 or 3

@@ -29,7 +29,7 @@ use Rattle.rules.proofs.Resumption.Growth.{Grown, step-grows}
 use Rattle.rules.proofs.Resumption.WrittenBehind.{withWritten, behind, NextBehind, next-behind, step-behind}
 use Rattle.rules.proofs.Resumption.CallSplits.{left-twice, resumed-behind, plain-passes}
 use Rattle.rules.proofs.EveryCall.Refusing.{refusing-at}
-use Rattle.rules.proofs.EveryCall.StepAnswers.{step-refuses}
+use Rattle.rules.proofs.EveryCall.StepAnswers.{of-step, step-refuses}
 use Rattle.rules.proofs.EveryCall.AnswerTimes.{apart, refusal-answers, after-not-entry, after-same}
 use Rattle.rules.proofs.EveryCall.RunEnds.{Decided, stops, accepts, onDecided, pausedRun, End, waits, refused, stepped, run-end, run-settles, run-counts}
 use Rattle.rules.proofs.EveryCall.Ticks.{step-ticks}
@@ -95,7 +95,7 @@ module _ (e : Environment) where
   past (waits b) h = apart atBudget atEntry refl h (λ z. omega arith)
   past (refused {t = t} l p d) h =
       let x = stopped (step numberCells e t) d in
-      apart insteadOfStep atEntry (ap (λ a. when (meaning a)) (sym (x .2)) ∙ refusing-at (step-refuses numberCells markCells e t) (x .1)) h (λ z. omega arith)
+      apart insteadOfStep atEntry (ap (λ a. when (meaning a)) (sym (x .2)) ∙ of-step (refusalMeaning (x .0)) (refusing-at (step-refuses numberCells markCells e t) (x .1))) h (λ z. omega arith)
   past (stepped l p d k q) h = after-not-entry k h
 
   pub run-past : (n : ℕ) (s : State numberCells) → when (meaning (run numberCells e n s .answer)) ≡ atEntry → ⊥
@@ -172,7 +172,7 @@ module _ (program : List Instruction) (s : Snapshot) (ten : length (s .machine .
   call-end n (refused {k} {t} l p d) =
       let x = stopped (step numberCells here t) d in
       subst (λ a. Ends n (record { answer = meaning a; steps = k; left = snapshotAfter s t })) (x .2)
-      (Calls.step-refused (refusal-answers 17 (omega arith) (x .0)) (refusing-at (step-refuses numberCells markCells here t) (x .1)) l (paused-call p)
+      (Calls.step-refused (refusal-answers 17 (omega arith) (x .0)) (of-step (refusalMeaning (x .0)) (refusing-at (step-refuses numberCells markCells here t) (x .1))) l (paused-call p)
       (no-step p)
       (step-is-refused p (x .1)))
   call-end n (stepped {k} {t = t} {a = a} l p d e q) =

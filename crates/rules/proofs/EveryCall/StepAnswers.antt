@@ -1,8 +1,11 @@
 -- Refusals 1, 2 and 3 are the entry's alone, and 17 is the clock's: a step is refused with one of 4 to 16, or at a sink.
 use Prim.Native.Nat.{ℕ, zero, suc, _-_}
 use mathlib.Core.Path.{_≡_, refl}
+use mathlib.Core.Bool.{Bool, true, false, _&&_}
 use mathlib.Core.List.{List, [], _∷_}
+use native.Mathlib.Omega.{arith}
 use lib.Dec.{ltb, eqb}
+use borrow.Author.Tests.{ltb-true, lt-leb, ne-eqb}
 use Rattle.rules.specs.declared.OlaOperand.{OlaOperand}
 use Rattle.rules.specs.declared.OlaOperand.the-variants.{Absent, Immediate, Register, RegisterWithOffset, RegisterWithFactor, Psp, Pc}
 use Rattle.rules.specs.declared.Instruction.{Instruction}
@@ -14,13 +17,28 @@ use Rattle.rules.specs.Opcodes.{Class, addition, multiplication, equalit
 use Rattle.rules.specs.Operands.{binaryLength, instructionAt, fetch, Want, ignored, lacking, value, later, register, target, inField, valueOf, targetOf, absence, operand, Operands, operands}
 use Rattle.rules.specs.Step.{Environment, State, Next, r9, contentValue, read, readBelow, readMany, readSpan, storeMany, operate, capacity, step}
 use Rattle.rules.specs.Guarded.{MarkState, GuardedState, guardedRest, guardedStep}
-use Rattle.rules.specs.Answers.{refusalMeaning}
+use Rattle.rules.specs.Answers.{Meaning, outcome, refusal, refusalMeaning}
 use Rattle.rules.specs.EveryCall.{insteadOfStep, when}
+use Rattle.rules.proofs.Laws.BoolLaws.{false-true, and-left, and-right}
 use Rattle.rules.proofs.EveryCall.Refusing.{Refusing, refusing-refused, passed, RefusingGuarded, passed-guarded, refusing-require, refusing-choose, refusing-bind, refusing-after, refusing-guard}
 
--- 4 to 16
+-- 4 to 16, which carry nothing
+abbrev pub isOfStep : Meaning → Bool
+isOfStep (outcome n vs) = false
+isOfStep (refusal n []) = ltb 3 n && ltb n 17
+isOfStep (refusal n (v ∷ vs)) = false
+
 abbrev pub AtStep : Refusal → Type 0
-AtStep f = when (refusalMeaning f) ≡ insteadOfStep
+AtStep f = isOfStep (refusalMeaning f) ≡ true
+
+-- they come in the place of a step
+pub of-step : (m : Meaning) → isOfStep m ≡ true → when m ≡ insteadOfStep
+of-step (outcome n vs) h = absurd (false-true h)
+of-step (refusal n []) h =
+    let a = ltb-true 3 n (and-left (ltb 3 n) (ltb n 17) h) in
+    let b = ltb-true n 17 (and-right (ltb 3 n) (ltb n 17) h) in
+    rw (lt-leb n 3 (omega arith), ne-eqb n 17 (λ e. omega arith))
+of-step (refusal n (v ∷ vs)) h = absurd (false-true h)
 
 -- Fetch
 

@@ -22,11 +22,13 @@ use Rattle.rules.specs.Opcodes.{Class, classOf}
 use Rattle.rules.specs.Operands.{target, wantsOf, valueOf, operand, Operands, operands}
 use Rattle.rules.specs.Step.{State, r9, tapeValues}
 use Rattle.rules.specs.Guarded.{registerMark, operandMark, MarkState, cellMark, cleanMany, marksAfter}
+use Rattle.rules.specs.DecodedRegisters.{RegisterInRange, RegistersInRange}
 use Rattle.rules.specs.MarkRules.{
   Place,
   register,
   cell,
   Marking,
+  markingOf,
   OperandMarked,
   of-immediate,
   of-psp,
@@ -65,7 +67,6 @@ use Rattle.rules.specs.MarkRules.{
 }
 use Rattle.rules.proofs.Laws.BoolLaws.{or-equal}
 use Rattle.rules.proofs.Laws.ResultLaws.{refuse-pass, pass-injective, bind-pass}
-use Rattle.rules.proofs.Laws.DecodedRegisters.{RegisterInRange, RegistersInRange}
 use Rattle.rules.proofs.MarksAndSinks.WrittenPlaces.{
   stored-mark,
   other-mark,
@@ -110,11 +111,6 @@ use Rattle.rules.proofs.MarksAndSinks.WrittenPlaces.{
   of-nothing,
   kindOf,
 }
-
--- the marks of a state, place by place
-abbrev pub markingOf : MarkState markCells → Marking
-markingOf t (register r) = registerMark (t .registers) r
-markingOf t (cell a) = cellMark markCells (t .cells) a
 
 -- Operands
 

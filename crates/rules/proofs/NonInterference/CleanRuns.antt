@@ -20,6 +20,7 @@ use Rattle.rules.specs.MarkRules.{
   register,
   cell,
   Marking,
+  snapshotMarks,
   OperandMarked,
   of-immediate,
   of-psp,
@@ -60,7 +61,7 @@ use Rattle.rules.specs.SinkRules.{
   start,
   onward,
 }
-use Rattle.rules.specs.NonInterference.{startMarks, Unmarked}
+use Rattle.rules.specs.NonInterference.{Unmarked}
 use Rattle.rules.proofs.Laws.BoolLaws.{false-true}
 
 abbrev Clean : Marking → Type 0
@@ -86,7 +87,7 @@ clean-after h (kept w) = h _
 
 clean-comes : {e : Environment} {s s′ : State numberCells} {t t′ : Marking} {k : ℕ} → Comes e s t k s′ t′ → Clean t → Clean t′
 clean-comes start h = h
-clean-comes (onward a r) h = clean-comes r (λ x. clean-after h (a .marks x))
+clean-comes (onward a l r) h = clean-comes r (λ x. clean-after h (a .marks x))
 
 no-operand : {t : Marking} → Clean t → {o : OlaOperand} → OperandMarked t o true → ⊥
 no-operand h p = false-true (sym (clean-operand h p))
@@ -131,6 +132,6 @@ clean-cells (b ∷ l) (t ∷ ts) h a = go (clean-cells l ts (λ i. h (ℕ.suc i)
     go k true = not-marked (eqb t 1) (h 0)
     go k false = k
 
-pub clean-start : (g : GuardedSnapshot) → Unmarked g → Clean (startMarks g)
+pub clean-start : (g : GuardedSnapshot) → Unmarked g → Clean (snapshotMarks g)
 clean-start g u (register r) = not-marked _ (u .registers r)
 clean-start g u (cell a) = clean-cells (usedAddresses (g .plain)) (usedMarks g) (u .cells) a

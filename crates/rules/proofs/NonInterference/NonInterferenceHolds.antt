@@ -2,7 +2,8 @@
 use Prim.Native.Nat.{ℕ, _<_}
 use mathlib.Core.Path.{_≡_, refl, sym, ap, subst, _∙_}
 use mathlib.Core.Bool.{Bool, true, false}
-use mathlib.Core.List.{List}
+use mathlib.Core.List.{List, []}
+use native.Mathlib.Omega.{arith}
 use Rattle.rules.specs.declared.Instruction.{Instruction}
 use Rattle.rules.specs.declared.Refusal.{Refusal}
 use Rattle.rules.specs.declared.Refusal.the-variants.{BadState}
@@ -12,24 +13,27 @@ use Rattle.rules.specs.Results.{Result, refuse, pass}
 use Rattle.rules.specs.Frames.{loadWords}
 use Rattle.rules.specs.Text.{loadText, loadBudgetText}
 use Rattle.rules.specs.Cells.{zipped, numberCells, markCells}
-use Rattle.rules.specs.Step.{RunEnd}
+use Rattle.rules.specs.Step.{Environment, State, RunEnd}
 use Rattle.rules.specs.Guarded.{GuardedState, guardedRun}
-use Rattle.rules.specs.Answers.{Meaning, meaning}
-use Rattle.rules.specs.Entry.{GuardedSnapshot, lowBits, all, plainEntry, marksEntry, guardedEntry, environment, stateOf, guardedStateOf, snapshotAfter, guardedSnapshotAfter}
+use Rattle.rules.specs.Answers.{Meaning, refusal, meaning}
+use Rattle.rules.specs.Entry.{GuardedSnapshot, lowBits, all, plainEntry, marksEntry, guardedEntry, environment, guardedStateOf, snapshotAfter, guardedSnapshotAfter}
 use Rattle.rules.specs.Calls.{Called, refusedCall, pausedAfter, plainRunOf, guardedRunOf, plainAnswered, guardedAnswered, plainCall, guardedCall, jobBudget, jobProgram, plainWords, plainText, guardedWords, guardedText, guardedBudgetText}
 use Rattle.rules.specs.Relations.{BothRan}
-use Rattle.rules.specs.MarkRules.{Place, register, cell, Marking}
-use Rattle.rules.specs.SinkRules.{Comes}
-use Rattle.rules.specs.NonInterference.{MarkedBelow, Alike, SameCalls, MeetsSink, SinkAfter, withoutMarks, startMarks, Reaches, reaches, Unmarked, NonInterference}
+use Rattle.rules.specs.DecodedRegisters.{LoadedInRange}
+use Rattle.rules.specs.MarkRules.{Marking}
+use Rattle.rules.specs.SinkRules.{ReachesSink, Comes}
+use Rattle.rules.specs.GuardedRuns.{RunByRules, paused, refused, stopped, ended, called, delegated, clock}
+use Rattle.rules.specs.NonInterference.{MarkedBelow, Alike, SameCalls, MeetsSink, SinkAfter, withoutMarks, Reaches, reaches, Unmarked, NonInterference}
 use Rattle.rules.proofs.Laws.BoolLaws.{and-with-true, and-with-false}
 use Rattle.rules.proofs.Laws.AnswerLaws.{paused-meaning, sink-meaning, sink-answer, refusal-not-sink}
 use Rattle.rules.proofs.Laws.EntryLaws.{all-at}
-use Rattle.rules.proofs.Laws.DecodedRegisters.{LoadedInRange, loadWords-in-range, loadText-in-range, loadBudgetText-in-range}
+use Rattle.rules.proofs.Laws.DecodedRegisters.{loadWords-in-range, loadText-in-range, loadBudgetText-in-range}
 use Rattle.rules.proofs.NonInterference.AlikeRuns.{GuardedRelated, run-agrees}
 use Rattle.rules.proofs.NonInterference.AlikeSnapshots.{close, guardedEntry-same, states-related, snapshots-left}
 use Rattle.rules.proofs.NonInterference.GuardedBesidePlain.{run-beside}
-use Rattle.rules.proofs.MarksAndSinks.MarksFollow.{markingOf}
-use Rattle.rules.proofs.NonInterference.SinkRuns.{comes-sinks, sinks-came, pointwise}
+use Rattle.rules.proofs.MarksAndSinks.RunsByRules.{run-by-rules, rules-run}
+use Rattle.rules.proofs.MarksAndSinks.CallsByRules.{unfit}
+use Rattle.rules.proofs.Resumption.CallSplits.{guarded-passes}
 use Rattle.rules.proofs.NonInterference.CleanRuns.{clean-reaches, clean-start}
 
 -- Two alike calls
@@ -97,10 +101,6 @@ unfolding guardedEntry all
 entry-unfit g t = rw t (and-with-false (plainEntry (g .plain)))
 
 module _ (program : List Instruction) (budget : ℕ) (g : GuardedSnapshot) where
-  call-run : guardedEntry g ≡ true → guardedCall (pass program) budget g ≡ guardedAnswered g (guardedRunOf program budget g)
-  unfolding guardedCall
-  call-run t = ap (λ b. choose b (guardedAnswered g (guardedRunOf program budget g)) (refusedCall BadState g)) t
-
   plain-run : (k : ℕ) → guardedEntry g ≡ true → plainCall (pass program) k (g .plain) ≡ plainAnswered (g .plain) (plainRunOf program k (g .plain))
   unfolding plainCall
   plain-run k t = ap (λ b. choose b (plainAnswered (g .plain) (plainRunOf program k (g .plain))) (refusedCall BadState (g .plain))) (entry-plain g t)
@@ -114,7 +114,7 @@ module _ (program : List Instruction) (budget : ℕ) (g : GuardedSnapshot) where
       go false h = absurd (refusal-not-sink BadState h)
 
   run-sinks : MeetsSink (guardedCall (pass program) budget g) → guardedRunOf program budget g .answer ≡ MarkedSink
-  run-sinks a = sink-answer _ (sym (ap (λ (c : Called GuardedSnapshot). c .answer) (call-run (sink-enters a))) ∙ a)
+  run-sinks a = sink-answer _ (sym (ap (λ (c : Called GuardedSnapshot). c .answer) (guarded-passes program g budget (sink-enters a))) ∙ a)
 
 refused-no-sink : (f : Refusal) (budget : ℕ) (g : GuardedSnapshot) → MeetsSink (guardedCall (refuse f) budget g) → ⊥
 unfolding guardedCall
@@ -132,21 +132,14 @@ transparent (pass program) budget g t h = go (guardedEntry g) refl
         → withoutMarks (choose (guardedEntry g) (guardedAnswered g (guardedRunOf program budget g)) (refusedCall BadState g))
         ≡ choose (plainEntry (g .plain)) (plainAnswered (g .plain) (plainRunOf program budget (g .plain))) (refusedCall BadState (g .plain))
     go true e =
-        ap withoutMarks (call-run program budget g e)
+        ap withoutMarks (guarded-passes program g budget e)
         ∙ (ap (plainAnswered (g .plain))
         (run-beside numberCells markCells (environment program (g .plain)) budget (guardedStateOf g) .transparent
-        (λ a. h (ap (λ (c : Called GuardedSnapshot). c .answer) (call-run program budget g e) ∙ (ap meaning a ∙ sink-meaning))))
+        (λ a. h (ap (λ (c : Called GuardedSnapshot). c .answer) (guarded-passes program g budget e) ∙ (ap meaning a ∙ sink-meaning))))
         ∙ sym (plain-run program budget g budget e))
     go false e =
         ap (λ b. withoutMarks (choose b (guardedAnswered g (guardedRunOf program budget g)) (refusedCall BadState g))) e
         ∙ ap (λ b. choose b (plainAnswered (g .plain) (plainRunOf program budget (g .plain))) (refusedCall BadState (g .plain))) (sym e ∙ entry-split g t)
-
-unfit : (program : Result (List Instruction)) (budget : ℕ) (g : GuardedSnapshot) → marksEntry g ≡ false → {instructions : List Instruction}
-    → program ≡ pass instructions → guardedCall program budget g ≡ refusedCall BadState g
-unfolding guardedCall
-unfit program budget g t {instructions} h =
-    ap (λ x. guardedCall x budget g) h
-    ∙ ap (λ b. choose b (guardedAnswered g (guardedRunOf instructions budget g)) (refusedCall BadState g)) (entry-unfit g t)
 
 stops-early : (program : Result (List Instruction)) (budget : ℕ) (g : GuardedSnapshot) (k : ℕ) → SinkAfter k (guardedCall program budget g)
     → (k < budget) × (plainCall program k (g .plain) ≡ pausedAfter k (guardedCall program budget g .left .plain))
@@ -156,7 +149,7 @@ stops-early (pass program) budget g k a =
     let h = run-beside numberCells markCells (environment program (g .plain)) budget (guardedStateOf g) .early (run-sinks program budget g (a .0)) in
     subst (λ k. (k < budget) × (plainCall (pass program) k (g .plain) ≡ pausedAfter k (guardedCall (pass program) budget g .left .plain))) (a .1)
     (subst (λ (c : Called GuardedSnapshot). (c .steps < budget) × (plainCall (pass program) (c .steps) (g .plain) ≡ pausedAfter (c .steps) (c .left .plain)))
-    (sym (call-run program budget g t)) (
+    (sym (guarded-passes program g budget t)) (
       h .0,
       plain-run program budget g (guardedRunOf program budget g .steps) t
           ∙ (ap (plainAnswered (g .plain)) (h .1)
@@ -166,36 +159,33 @@ stops-early (pass program) budget g k a =
 
 -- Exactly at a sink
 
-start-same : (g : GuardedSnapshot) → startMarks g ≡ markingOf (guardedStateOf g .marks)
-start-same g = pointwise places
-  where
-    places : (x : Place) → startMarks g x ≡ markingOf (guardedStateOf g .marks) x
-    places (register r) = refl
-    places (cell a) = refl
+-- how a run ends with 18
+sink-ends : {e : Environment} {s s′ : State numberCells} {t t′ : Marking} {budget k : ℕ} {m : Meaning} → RunByRules e s t budget m k s′ t′ → m ≡ refusal 18 []
+    → (k < budget) × Comes e s t k s′ t′ × ReachesSink e s′ t′
+sink-ends (paused c) h = absurd (let z : _≡_ {A = ℕ} 0 1 = cc in omega arith)
+sink-ends (refused {n = n} b c u r) h = absurd (let z : n ≡ 18 = cc in let l = r .greatest in omega arith)
+sink-ends (stopped b c u) h = (b, c, u)
+sink-ends (ended l) h = absurd (let z : _≡_ {A = ℕ} 0 1 = cc in omega arith)
+sink-ends (called l) h = absurd (let z : _≡_ {A = ℕ} 0 1 = cc in omega arith)
+sink-ends (delegated l) h = absurd (let z : _≡_ {A = ℕ} 0 1 = cc in omega arith)
+sink-ends (clock l c) h = absurd (let z : _≡_ {A = ℕ} 17 18 = cc in omega arith)
 
 sink-reaches : (program : Result (List Instruction)) → LoadedInRange program → (budget : ℕ) (g : GuardedSnapshot) (k : ℕ)
     → SinkAfter k (guardedCall program budget g) → (k < budget) × Reaches program g k
 sink-reaches (refuse f) l budget g k h = absurd (refused-no-sink f budget g (h .0))
 sink-reaches (pass program) l budget g k h =
     let t = sink-enters program budget g (h .0) in
-    let e = environment program (g .plain) in
-    let w = sinks-came e l budget (guardedStateOf g) refl (run-sinks program budget g (h .0)) in
-    let s : guardedRunOf program budget g .steps ≡ k = sym (ap (λ (c : Called GuardedSnapshot). c .steps) (call-run program budget g t)) ∙ h .1 in
-    subst (λ k. (k < budget) × Reaches (pass program) g k) s (
-      w .below,
-      reaches t
-          (subst (λ (x : Marking). Comes e (stateOf (g .plain)) x (guardedRunOf program budget g .steps) (guardedRunOf program budget g .state .plain) (markingOf (guardedRunOf program budget g .state .marks)))
-          (sym (start-same g))
-          (w .comes))
-          (w .reaches),
-    )
+    let c = guarded-passes program g budget t in
+    let w = sink-ends (run-by-rules (environment program (g .plain)) l budget (guardedStateOf g) refl) (sym (ap (λ (c : Called GuardedSnapshot). c .answer) c) ∙ h .0) in
+    let s : guardedRunOf program budget g .steps ≡ k = sym (ap (λ (c : Called GuardedSnapshot). c .steps) c) ∙ h .1 in
+    subst (λ k. (k < budget) × Reaches (pass program) g k) s (w .0, reaches t (w .1) (w .2))
 
 reaches-sink : (program : Result (List Instruction)) → LoadedInRange program → (budget : ℕ) (g : GuardedSnapshot) (k : ℕ) → k < budget → Reaches program g k
     → SinkAfter k (guardedCall program budget g)
 reaches-sink x l budget g k b (reaches {program} t c u) =
-    let w = comes-sinks (environment program (g .plain)) l c budget b (guardedStateOf g .marks) (start-same g) refl u in
-    let e = call-run program budget g t ∙ ap (guardedAnswered g) (w .runs) in
-    (ap (λ (c : Called GuardedSnapshot). c .answer) e ∙ sink-meaning, ap (λ (c : Called GuardedSnapshot). c .steps) e)
+    let w = rules-run (environment program (g .plain)) l (stopped b c u) (guardedStateOf g .marks) refl refl in
+    let e = guarded-passes program g budget t in
+    (ap (λ (c : Called GuardedSnapshot). c .answer) e ∙ w .answer, ap (λ (c : Called GuardedSnapshot). c .steps) e ∙ w .steps)
 
 never-reaches : (program : Result (List Instruction)) (g : GuardedSnapshot) (k : ℕ) → Unmarked g → Reaches program g k → ⊥
 never-reaches program g k n (reaches t c u) = clean-reaches c (clean-start g n) u
@@ -208,7 +198,7 @@ holds program l budget =
     record {
       agrees = calls-same program budget;
       transparent = transparent program budget;
-      unfit = unfit program budget;
+      unfit = λ g t. unfit program budget g (entry-unfit g t);
       stopsEarly = stops-early program budget;
       exact = λ g k. (sink-reaches program l budget g k, λ h. reaches-sink program l budget g k (h .0) (h .1));
       clean = λ g n a. never-reaches program g _ n (sink-reaches program l budget g _ (a, refl) .1);
