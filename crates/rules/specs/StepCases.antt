@@ -12,7 +12,7 @@ use Rattle.rules.specs.Entry.{Snapshot, GuardedSnapshot, usedTape, usedO
 use Rattle.rules.specs.Calls.{plainBudgetText}
 use Rattle.rules.specs.Solve.{solve, printed}
 use Rattle.rules.specs.Encoding.{frame, imm, bytes}
-use Rattle.rules.specs.CaseRows.{Start, start, withR, withMarkedR, withCell, withMarkedCell, withTape, withClk, fourCells, startSnapshot, Row, row, Hold, plain, guarded, e0, e3, registerAt, cellAt, clkOf, markedRegisterAt, markedCellAt}
+use Rattle.rules.specs.CaseRows.{Start, start, withR, withMarkedR, withCell, withMarkedCell, withTape, withClk, fourCells, startSnapshot, Row, row, Hold, plain, guarded, e0, e3, refusedBy, registerAt, cellAt, clkOf, markedRegisterAt, markedCellAt}
 use Rattle.rules.specs.RefusalOrder.{endLines}
 
 abbrev r0 : OlaOperand
@@ -137,8 +137,33 @@ markResults =
     ∷ leaves (frame O.Mstore (imm 0) (imm 0) r0) (withMarkedCell 1 5 start) (markedCellAt 1) (5 ∷ 1 ∷ [])
     ∷ []
 
+-- The marks after a last step
+
+-- R0 is an unmarked 7, R1 a marked 6 and cell 4 a marked 9
+abbrev markedBoth : Start
+markedBoth = withMarkedCell 4 9 marked1
+
+abbrev allThree : GuardedSnapshot → List ℕ
+allThree g = markedRegisterAt 0 g ++ (markedRegisterAt 1 g ++ markedCellAt 4 g)
+
+-- the step of 17
+abbrev atClock : List ℕ → List ℕ → Row
+atClock words about = row (guarded 1 words (withClk 999999999999 markedBoth)) allThree (refusedBy 17) 1 about
+
+unfoldable pub lastMarks : List Row
+lastMarks =
+    -- END, and SCCALL with either outcome, write no register and no cell: each keeps its mark
+    row (guarded 1 (frame O.End r1 r1 r0) markedBoth) allThree e0 1 (7 ∷ 0 ∷ 6 ∷ 1 ∷ 9 ∷ 1 ∷ [])
+    ∷ row (guarded 1 (frame O.Sccall (imm 0) (imm 2) r0) (fourCells markedBoth)) allThree (outcome 1 (5 ∷ 6 ∷ 7 ∷ 8 ∷ [])) 1 (7 ∷ 0 ∷ 6 ∷ 1 ∷ 9 ∷ 1 ∷ [])
+    ∷ row (guarded 1 (frame O.Sccall (imm 0) (imm 1) r0) (fourCells markedBoth)) allThree (outcome 2 (5 ∷ 6 ∷ 7 ∷ 8 ∷ [])) 1 (7 ∷ 0 ∷ 6 ∷ 1 ∷ 9 ∷ 1 ∷ [])
+    -- the step of 17 stands with its marks
+    ∷ atClock (frame O.Mov Absent r1 r0) (6 ∷ 1 ∷ 6 ∷ 1 ∷ 9 ∷ 1 ∷ [])
+    ∷ atClock (frame O.Mov Absent (imm 5) r1) (7 ∷ 0 ∷ 5 ∷ 0 ∷ 9 ∷ 1 ∷ [])
+    ∷ atClock (frame O.Mstore (imm 0) (imm 4) r0) (7 ∷ 0 ∷ 6 ∷ 1 ∷ 7 ∷ 0 ∷ [])
+    ∷ []
+
 abbrev pub MarkResultsHold : Type 0
-MarkResultsHold = Hold markResults
+MarkResultsHold = Hold markResults × Hold lastMarks
 
 -- `solve` of refusals: the number in decimal; number 2's frame; zeros at entry
 

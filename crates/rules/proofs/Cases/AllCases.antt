@@ -7,7 +7,7 @@ use Rattle.rules.specs.StoreOrder.{tapeOrder, TapeOrderHolds, storeOrder
 use Rattle.rules.specs.SinkOrder.{operandsBeforeSinks, OperandsBeforeSinksHold, sinksBeforeRest, SinksBeforeRestHold, readSinks, ReadSinksHold, sinkAtClock, SinkAtClockHolds}
 use Rattle.rules.specs.EntryRefusals.{wordRefusals, WordRefusalsHold, TextRefusalsHold, stateRefusals, markRefusals, StateRefusalsHold}
 use Rattle.rules.specs.StepRefusals.{operandRefusals, OperandRefusalsHold, memoryRefusals, MemoryRefusalsHold, outcomes, OutcomesHold}
-use Rattle.rules.specs.StepCases.{results, lengths, ResultsHold, markResults, MarkResultsHold, listingWithoutEnd, PrintsHold}
+use Rattle.rules.specs.StepCases.{results, lengths, ResultsHold, markResults, lastMarks, MarkResultsHold, listingWithoutEnd, PrintsHold}
 use Rattle.rules.proofs.Cases.Unfolding.{calling, printing}
 
 -- Document 01's cases: Cases.antt
@@ -114,8 +114,8 @@ unfolding calling results lengths
 resultsHold = (refl, refl)
 
 pub markResultsHold : MarkResultsHold
-unfolding calling markResults
-markResultsHold = refl
+unfolding calling markResults lastMarks
+markResultsHold = (refl, refl)
 
 pub printsHold : PrintsHold
 unfolding printing endLines listingWithoutEnd
