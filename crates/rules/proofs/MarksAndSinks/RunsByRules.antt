@@ -37,6 +37,13 @@ at s t = record { plain = s; marks = t }
 pointwise : {f g : Marking} → ((x : Place) → f x ≡ g x) → f ≡ g
 pointwise h = λ j x. h x j
 
+-- what a run gives, its marks by their places
+pub record Ran (r : RunEnd Guarded) (m : Meaning) (k : ℕ) (s : State numberCells) (t : Marking) : Type 0 where
+  pub answer : meaning (r .answer) ≡ m
+  pub steps : r .steps ≡ k
+  pub plain : r .state .plain ≡ s
+  pub marks : (x : Place) → markingOf (r .state .marks) x ≡ t x
+
 -- The number of a refused step
 
 refused-at : (e : Environment) (s : State numberCells) {f : Refusal} → step numberCells e s ≡ refuse f → AtStep f
@@ -134,13 +141,6 @@ module _ (e : Environment) (inRange : AllInRange (e .program)) where
 
   -- And in no other way
 
-  -- what a run gives, its marks by their places
-  pub record Ran (r : RunEnd Guarded) (m : Meaning) (k : ℕ) (s : State numberCells) (t : Marking) : Type 0 where
-    pub answer : meaning (r .answer) ≡ m
-    pub steps : r .steps ≡ k
-    pub plain : r .state .plain ≡ s
-    pub marks : (x : Place) → markingOf (r .state .marks) x ≡ t x
-
   -- from a state with any marks that are t by their places
   abbrev Runs : ℕ → State numberCells → Marking → Meaning → ℕ → State numberCells → Marking → Type 0
   Runs n s t m k s′ t′ = (u : MarkState markCells) → t ≡ markingOf u → length (u .registers) ≡ 10 → Ran (run n (at s u)) m k s′ t′
@@ -180,49 +180,34 @@ module _ (e : Environment) (inRange : AllInRange (e .program)) where
       let c′ : j ≡ steps = omega arith in
       subst (λ x. Ran (run x (at s u)) m steps s″ t″) b′ (subst (λ x. Ran (run n (at s u)) m x s″ t″) c′ (h u p ten))
   through zero n j (onward a l r) h b c u p ten = absurd (omega arith)
-  through (suc budget) n j (onward {s} {s′} {t′ = t′} a l r) h b c u p ten =
+  through (suc budget) n j {s″ = s″} {t″ = t″} {steps = steps} {m} (onward {s′ = s′} a l r) h b c u p ten =
       let w = first-step budget a u p ten in
       let v = through budget n j r h (omega arith) refl (w .marks) (sym (pointwise (w .places))) (w .ten) in
       let z = w .runs ∙ on-clock (ltb (s′ .clk) clockEnd) (at s′ (w .marks)) (run budget (at s′ (w .marks))) (lt-ltb (s′ .clk) clockEnd l) in
-      record {
-        answer = ap (λ (x : RunEnd Guarded). meaning (x .answer)) z ∙ v .answer;
-        steps = ap (λ (x : RunEnd Guarded). x .steps) z ∙ (ap suc (v .steps) ∙ (omega arith));
-        plain = ap (λ (x : RunEnd Guarded). x .state .plain) z ∙ v .plain;
-        marks = λ x. ap (λ (y : RunEnd Guarded). markingOf (y .state .marks) x) z ∙ v .marks x;
-      }
+      subst (λ x. Ran x m steps s″ t″) (sym z)
+      (record { answer = v .answer; steps = ap suc (v .steps) ∙ (omega arith); plain = v .plain; marks = v .marks })
 
   -- the step that leaves the run, with an answer that it does not go on from
   leaving : {s s″ : State numberCells} {t t″ : Marking} {budget k : ℕ} {f : Finish} (a : Answer) {m : Meaning} → LastStep e s t budget k f s″ t″
       → ((q : Guarded) (r : Guarded → RunEnd Guarded) → onFinish f (s″ .clk) q r ≡ afterStep (stopsAt a q)) → meaning a ≡ m
       → Runs budget s t m (suc k) s″ t″
-  leaving {budget = budget} {k} a h out e =
+  leaving {s″ = s″} {t″ = t″} {budget} {k} a {m} h out means =
       let l = h .below in
       through budget (suc (budget - suc k)) 1 (h .comes)
       (λ u p ten.
       let w = first-step (budget - suc k) (h .step) u p ten in
-      let z = w .runs ∙ out _ (run (budget - suc k)) in
-      record {
-        answer = ap (λ (x : RunEnd Guarded). meaning (x .answer)) z ∙ e;
-        steps = ap (λ (x : RunEnd Guarded). x .steps) z;
-        plain = ap (λ (x : RunEnd Guarded). x .state .plain) z;
-        marks = λ x. ap (λ (y : RunEnd Guarded). markingOf (y .state .marks) x) z ∙ w .places x;
-      })
+      subst (λ r. Ran r m 1 s″ t″) (sym (w .runs ∙ out _ (run (budget - suc k)))) (record { answer = means; steps = refl; plain = refl; marks = w .places }))
       (omega arith) (omega arith)
 
   -- the step that is refused
   refusing : {s s′ : State numberCells} {t t′ : Marking} {budget k : ℕ} (a : Answer) {m : Meaning} → k < budget → Comes e s t k s′ t′
       → ((n : ℕ) (u : MarkState markCells) → t′ ≡ markingOf u → length (u .registers) ≡ 10 → run (suc n) (at s′ u) ≡ stopsAt a (at s′ u)) → meaning a ≡ m
       → Runs budget s t m k s′ t′
-  refusing {budget = budget} {k} a b c out e =
+  refusing {s′ = s′} {t′ = t′} {budget} {k} a {m} b c out means =
       through budget (suc (budget - suc k)) 0 c
       (λ u p ten.
-      let z = out (budget - suc k) u p ten in
-      record {
-        answer = ap (λ (x : RunEnd Guarded). meaning (x .answer)) z ∙ e;
-        steps = ap (λ (x : RunEnd Guarded). x .steps) z;
-        plain = ap (λ (x : RunEnd Guarded). x .state .plain) z;
-        marks = λ x. ap (λ (y : RunEnd Guarded). markingOf (y .state .marks) x) z ∙ ap (λ (t : Marking). t x) (sym p);
-      })
+      subst (λ r. Ran r m 0 s′ t′) (sym (out (budget - suc k) u p ten))
+      (record { answer = means; steps = refl; plain = refl; marks = λ x. ap (λ (t : Marking). t x) (sym p) }))
       (omega arith) (omega arith)
 
   pub rules-run : {s s′ : State numberCells} {t t′ : Marking} {budget k : ℕ} {m : Meaning} → RunByRules e s t budget m k s′ t′ → Runs budget s t m k s′ t′

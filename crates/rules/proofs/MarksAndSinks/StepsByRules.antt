@@ -140,7 +140,7 @@ module _ (e : Environment) (inRange : AllInRange (e .program)) (q : Guarded) (te
       subst (λ (u : MarkState markCells). MarkedAfter marking i (q .plain) o (i .opcode) x b ↔ (markingOf u x ≡ b)) (sym (marks-left h f))
       (marks-exact (q .marks) i o (e .psp) (q .plain .registers) ten (fetch-in-range (e .program) (q .plain .pc) inRange (f .fetched)) (q .plain) (f .read) x b)
 
-  pub ten-again : (n : GuardedNext numberCells markCells) → guardedStep numberCells markCells e q ≡ passes n → length (n .marks .registers) ≡ 10
+  ten-again : (n : GuardedNext numberCells markCells) → guardedStep numberCells markCells e q ≡ passes n → length (n .marks .registers) ≡ 10
   ten-again n h =
       let w = stepped e q h in
       ap (λ (t : MarkState markCells). length (t .registers)) (w .marks) ∙ (marks-length (q .marks) _ _ _ _ ∙ ten)
@@ -149,7 +149,7 @@ module _ (e : Environment) (inRange : AllInRange (e .program)) (q : Guarded) (te
   not-at-sink h k = h (stop-reaches e q k)
 
   module _ (f : Finish) (s : State numberCells) (t : Marking) where
-    pub accepted-by-rules : Accepts e q f s t → AcceptedStep e (q .plain) marking f s t
+    accepted-by-rules : Accepts e q f s t → AcceptedStep e (q .plain) marking f s t
     accepted-by-rules a =
         let w = stepped e q (a .accepted) in
         record {
@@ -161,7 +161,7 @@ module _ (e : Environment) (inRange : AllInRange (e .program)) (q : Guarded) (te
           marks = λ x. marks-by-rules _ (a .accepted) (w .fetched) x (t x) .1 (a .places x);
         }
 
-    pub rules-accepted : AcceptedStep e (q .plain) marking f s t → Accepts e q f s t
+    rules-accepted : AcceptedStep e (q .plain) marking f s t → Accepts e q f s t
     rules-accepted a =
         let n = plain-passed beside (not-at-sink (a .noSink)) (a .next) in
         record { marks = n .0; accepted = n .1; places = λ x. marks-by-rules _ (n .1) (a .fetched) x (t x) .0 (a .marks x) }
