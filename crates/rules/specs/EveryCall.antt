@@ -53,16 +53,16 @@ pub data AnswersAfter : Finish → ℕ → Meaning → Type 0 where
 
 -- The next step from a snapshot: it is refused; or it is accepted and is a call's last, with what it leaves
 
-pub data StepRefused : Result (List Instruction) → Snapshot → Meaning → Type 0 where
-  step-refused : {program : List Instruction} {s : Snapshot} {f : Refusal}
+pub data PlainStepRefused : Result (List Instruction) → Snapshot → Meaning → Type 0 where
+  plain-step-refused : {program : List Instruction} {s : Snapshot} {f : Refusal}
       → step numberCells (environment program s) (stateOf s) ≡ refuse f
-      → StepRefused (pass program) s (refusalMeaning f)
+      → PlainStepRefused (pass program) s (refusalMeaning f)
 
-pub data LastStep : Result (List Instruction) → Snapshot → Meaning → Snapshot → Type 0 where
-  last-step : {program : List Instruction} {s : Snapshot} {a : Meaning} (n : Next numberCells)
+pub data PlainStepLast : Result (List Instruction) → Snapshot → Meaning → Snapshot → Type 0 where
+  plain-step-last : {program : List Instruction} {s : Snapshot} {a : Meaning} (n : Next numberCells)
       → step numberCells (environment program s) (stateOf s) ≡ pass n
       → AnswersAfter (n .finish) (n .state .clk) a
-      → LastStep (pass program) s a (snapshotAfter s (n .state))
+      → PlainStepLast (pass program) s a (snapshotAfter s (n .state))
 
 pub data GuardedStepRefused : Result (List Instruction) → GuardedSnapshot → Meaning → Type 0 where
   guarded-step-refused : {program : List Instruction} {g : GuardedSnapshot} {f : Refusal}
@@ -72,11 +72,11 @@ pub data GuardedStepRefused : Result (List Instruction) → GuardedSnapshot → 
       → guardedStep numberCells markCells (environment program (g .plain)) (guardedStateOf g) ≡ sink
       → GuardedStepRefused (pass program) g (refusal 18 [])
 
-pub data GuardedLastStep : Result (List Instruction) → GuardedSnapshot → Meaning → GuardedSnapshot → Type 0 where
-  guarded-last-step : {program : List Instruction} {g : GuardedSnapshot} {a : Meaning} (n : GuardedNext numberCells markCells)
+pub data GuardedStepLast : Result (List Instruction) → GuardedSnapshot → Meaning → GuardedSnapshot → Type 0 where
+  guarded-step-last : {program : List Instruction} {g : GuardedSnapshot} {a : Meaning} (n : GuardedNext numberCells markCells)
       → guardedStep numberCells markCells (environment program (g .plain)) (guardedStateOf g) ≡ passes n
       → AnswersAfter (n .next .finish) (n .next .state .clk) a
-      → GuardedLastStep (pass program) g a (guardedSnapshotAfter g (record { plain = n .next .state; marks = n .marks }))
+      → GuardedStepLast (pass program) g a (guardedSnapshotAfter g (record { plain = n .next .state; marks = n .marks }))
 
 -- what no call changes: PSP, the storage address, and the lengths of the buffers
 pub record Kept (s t : Snapshot) : Type 0 where
@@ -134,11 +134,11 @@ pub record Promised
 
 -- a plain call never gives 18
 abbrev pub PlainPromised : Result (List Instruction) → ℕ → Snapshot → Called Snapshot → Type 0
-PlainPromised program budget s c = Promised (λ s. s) 17 (StepRefused program) (LastStep program) (λ k. plainCall program k s) budget s c
+PlainPromised program budget s c = Promised (λ s. s) 17 (PlainStepRefused program) (PlainStepLast program) (λ k. plainCall program k s) budget s c
 
 abbrev pub GuardedPromised : Result (List Instruction) → ℕ → GuardedSnapshot → Called GuardedSnapshot → Type 0
 GuardedPromised program budget g c =
-    Promised (λ g. g .plain) 18 (GuardedStepRefused program) (GuardedLastStep program) (λ k. guardedCall program k g) budget g c
+    Promised (λ g. g .plain) 18 (GuardedStepRefused program) (GuardedStepLast program) (λ k. guardedCall program k g) budget g c
 
 -- The theorem, for each public call: a step has budget 1, a check 0. A machine has ten registers by its type.
 pub record EveryCall : Type 0 where

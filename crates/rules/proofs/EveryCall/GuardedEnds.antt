@@ -19,7 +19,7 @@ use Rattle.rules.specs.Calls.{Called, guardedRunOf, guardedAnswered, pau
 use Rattle.rules.specs.Relations.{BothGuarded, refused-alike, sink-alike, passed-alike}
 use Rattle.rules.specs.Soundness.{GuardedSound}
 use Rattle.rules.specs.Resumption.{guardedResumed}
-use Rattle.rules.specs.EveryCall.{IsAnswer, atEntry, insteadOfStep, atBudget, when, AnswersAfter, Kept, GuardedPromised, GuardedStepRefused, guarded-step-refused, at-sink, GuardedLastStep, guarded-last-step}
+use Rattle.rules.specs.EveryCall.{IsAnswer, atEntry, insteadOfStep, atBudget, when, AnswersAfter, Kept, GuardedPromised, GuardedStepRefused, guarded-step-refused, at-sink, GuardedStepLast, guarded-step-last}
 use Rattle.rules.specs.EveryCall as Spec
 use Rattle.rules.proofs.Laws.AnswerLaws.{paused-meaning}
 use Rattle.rules.proofs.Laws.Passing.{passing-guarded-at}
@@ -153,7 +153,7 @@ module _ (program : List Instruction) (g : GuardedSnapshot) (ten : length (g .pl
   withBudget k = guardedCall (pass program) k g
 
   abbrev Ends : ℕ → Called GuardedSnapshot → Type 0
-  Ends n c = CallEnd 18 (GuardedStepRefused (pass program)) (GuardedLastStep (pass program)) withBudget n g c
+  Ends n c = CallEnd 18 (GuardedStepRefused (pass program)) (GuardedStepLast (pass program)) withBudget n g c
 
   paused-call : {k : ℕ} {q : Guarded} → guardedRun numberCells markCells here k (guardedStateOf g) ≡ pausedRun k q
       → withBudget k ≡ pausedAfter k (guardedSnapshotAfter g q)
@@ -183,11 +183,11 @@ module _ (program : List Instruction) (g : GuardedSnapshot) (ten : length (g .pl
 
     last : {n m : GuardedNext numberCells markCells} → GuardedNextBehind (q .plain .written) n m → Grown (q .plain) (n .next .state)
         → count (q .marks .cells) ≤ count (n .marks .cells) → stepOf here (guardedResumed q) ≡ passes m
-        → {a : Meaning} → AnswersAfter (n .next .finish) (n .next .state .clk) a → GuardedLastStep (pass program) left a (guardedSnapshotAfter g (leftBy n))
+        → {a : Meaning} → AnswersAfter (n .next .finish) (n .next .state .clk) a → GuardedStepLast (pass program) left a (guardedSnapshotAfter g (leftBy n))
     last (guarded-next-behind {u = u} (next-behind {n} v b)) grown c h {a} d =
         let m : GuardedNext numberCells markCells = record { next = record { state = withWritten (n .state) v; finish = n .finish }; marks = u } in
-        subst (GuardedLastStep (pass program) left a) (sym (guarded-twice g q {r = record { plain = n .state; marks = u }} grown c (guarded-behind (behind v b))))
-        (guarded-last-step m (from-left ∙ h) d)
+        subst (GuardedStepLast (pass program) left a) (sym (guarded-twice g q {r = record { plain = n .state; marks = u }} grown c (guarded-behind (behind v b))))
+        (guarded-step-last m (from-left ∙ h) d)
 
     -- no fewer marks than before
     marks-grown : (n : GuardedNext numberCells markCells) → stepOf here q ≡ passes n → Grown (q .plain) (n .next .state)
@@ -197,7 +197,7 @@ module _ (program : List Instruction) (g : GuardedSnapshot) (ten : length (g .pl
         omega (arith, mark-count sound, mark-count (guarded-step-sound here q sound n h))
 
     step-is-last : (n : GuardedNext numberCells markCells) → stepOf here q ≡ passes n
-        → {a : Meaning} → AnswersAfter (n .next .finish) (n .next .state .clk) a → GuardedLastStep (pass program) left a (guardedSnapshotAfter g (leftBy n))
+        → {a : Meaning} → AnswersAfter (n .next .finish) (n .next .state .clk) a → GuardedStepLast (pass program) left a (guardedSnapshotAfter g (leftBy n))
     step-is-last n h d =
         let too = passes-too both-steps h in
         let grown = passing-guarded-at (guarded-step-grows here q (sound .plain)) h .1 in

@@ -18,7 +18,7 @@ use Rattle.rules.specs.Calls.{Called, plainRunOf, plainAnswered, pausedA
 use Rattle.rules.specs.Relations.{Both, both-refused, passed}
 use Rattle.rules.specs.Soundness.{Sound}
 use Rattle.rules.specs.Resumption.{resumed}
-use Rattle.rules.specs.EveryCall.{atEntry, insteadOfStep, atBudget, when, AnswersAfter, Kept, PlainPromised, StepRefused, step-refused, LastStep, last-step}
+use Rattle.rules.specs.EveryCall.{atEntry, insteadOfStep, atBudget, when, AnswersAfter, Kept, PlainPromised, PlainStepRefused, plain-step-refused, PlainStepLast, plain-step-last}
 use Rattle.rules.proofs.Laws.ResultLaws.{refuse-pass, pass-injective}
 use Rattle.rules.proofs.Laws.AnswerLaws.{paused-meaning}
 use Rattle.rules.proofs.Laws.Passing.{passing-at}
@@ -140,18 +140,18 @@ module _ (program : List Instruction) (s : Snapshot) (ten : length (s .machine .
     both-steps : Both (NextBehind (t .written)) (step numberCells here t) (step numberCells here (resumed t))
     both-steps = step-behind (t .written) here (resumed-behind t sound)
 
-    step-is-refused : {f : Refusal} → step numberCells here t ≡ refuse f → StepRefused (pass program) (snapshotAfter s t) (refusalMeaning f)
-    step-is-refused h = step-refused (from-left ∙ refused-too both-steps h)
+    step-is-refused : {f : Refusal} → step numberCells here t ≡ refuse f → PlainStepRefused (pass program) (snapshotAfter s t) (refusalMeaning f)
+    step-is-refused h = plain-step-refused (from-left ∙ refused-too both-steps h)
 
     last : {n m : Next numberCells} → NextBehind (t .written) n m → Grown t (n .state) → step numberCells here (resumed t) ≡ pass m
-        → {a : _} → AnswersAfter (n .finish) (n .state .clk) a → LastStep (pass program) (snapshotAfter s t) a (snapshotAfter s (n .state))
+        → {a : _} → AnswersAfter (n .finish) (n .state .clk) a → PlainStepLast (pass program) (snapshotAfter s t) a (snapshotAfter s (n .state))
     last (next-behind {n} v b) g h {a} d =
         let m : Next numberCells = record { state = withWritten (n .state) v; finish = n .finish } in
-        subst (LastStep (pass program) (snapshotAfter s t) a) (sym (left-twice s g (behind v b)))
-        (last-step m (from-left ∙ h) d)
+        subst (PlainStepLast (pass program) (snapshotAfter s t) a) (sym (left-twice s g (behind v b)))
+        (plain-step-last m (from-left ∙ h) d)
 
     step-is-last : (n : Next numberCells) → step numberCells here t ≡ pass n
-        → {a : _} → AnswersAfter (n .finish) (n .state .clk) a → LastStep (pass program) (snapshotAfter s t) a (snapshotAfter s (n .state))
+        → {a : _} → AnswersAfter (n .finish) (n .state .clk) a → PlainStepLast (pass program) (snapshotAfter s t) a (snapshotAfter s (n .state))
     step-is-last n h d =
         let too = passes-too both-steps h in
         last (too .behind) (passing-at (step-grows here t sound) h .1) (too .passes) d
@@ -164,7 +164,7 @@ module _ (program : List Instruction) (s : Snapshot) (ten : length (s .machine .
       ap (snapshotAfter s) (sym e) ∙ restored s enters
 
   abbrev Ends : ℕ → Called Snapshot → Type 0
-  Ends n c = CallEnd 17 (StepRefused (pass program)) (LastStep (pass program)) withBudget n s c
+  Ends n c = CallEnd 17 (PlainStepRefused (pass program)) (PlainStepLast (pass program)) withBudget n s c
 
   call-end : (n : ℕ) {r : RunEnd (State numberCells)} → End (decide here) (run numberCells here) n (stateOf s) r → Ends n (plainAnswered s r)
   unfolding meaning
