@@ -1,2 +1,3 @@
 -- What refusal 2 carries.
 pub mod EarliestCarried
+pub mod TextLengths
