@@ -131,7 +131,7 @@ plain budget words s = plainWords words budget (startSnapshot s)
 abbrev pub guarded : ℕ → List ℕ → Start → Called GuardedSnapshot
 guarded budget words s = guardedWords words budget (guardedStartSnapshot s)
 
--- outcomes that carry nothing, and refusals but for 2
+-- outcomes that carry nothing, and refusals; 2 carries the number of a malformed frame
 abbrev pub e0 : Meaning
 e0 = outcome 0 []
 
@@ -140,6 +140,9 @@ e3 = outcome 3 []
 
 abbrev pub refusedBy : ℕ → Meaning
 refusedBy n = refusal n []
+
+abbrev pub malformed : ℕ → Meaning
+malformed n = refusal 2 (n ∷ [])
 
 -- What is looked at after a call: nothing; a register's number; a cell's number, where it is present; how many are; clk
 

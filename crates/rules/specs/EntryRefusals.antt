@@ -5,15 +5,12 @@ use mathlib.Core.Path.{_≡_}
 use mathlib.Core.List.{List, [], _∷_, _++_}
 use lib.ListN.{replicate}
 use Rattle.rules.specs.Numbers.{defaultPsp}
-use Rattle.rules.specs.Answers.{Meaning, refusal}
+use Rattle.rules.specs.Answers.{Meaning}
 use Rattle.rules.specs.Entry.{Snapshot}
 use Rattle.rules.specs.Calls.{Called, plainWords, plainText, plainBudgetText, guardedWords}
 use Rattle.rules.specs.Encoding.{bytes}
-use Rattle.rules.specs.CaseRows.{start, startSnapshot, Row, row, Hold, plain, e0, e3, refusedBy, nothing}
+use Rattle.rules.specs.CaseRows.{start, startSnapshot, Row, row, Hold, plain, e0, e3, refusedBy, malformed, nothing}
 use Rattle.rules.specs.RefusalOrder.{endLines}
-
-abbrev malformed : ℕ → Meaning
-malformed n = refusal 2 (n ∷ [])
 
 -- Bare words
 

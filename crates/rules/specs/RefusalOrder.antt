@@ -9,11 +9,10 @@ use Rattle.rules.specs.declared.OlaOpcode.{OlaOpcode}
 use Rattle.rules.specs.declared.OlaOpcode.the-variants as O
 use Rattle.rules.specs.declared.OlaOperand.{OlaOperand}
 use Rattle.rules.specs.declared.OlaOperand.the-variants.{Absent, Register, RegisterWithOffset}
-use Rattle.rules.specs.Answers.{Meaning, refusal}
 use Rattle.rules.specs.Entry.{Snapshot}
 use Rattle.rules.specs.Calls.{Called, plainText, plainBudgetText}
 use Rattle.rules.specs.Encoding.{frame, imm, absent6, offset7, bytes}
-use Rattle.rules.specs.CaseRows.{Start, start, withMarkedR, withClk, fourCells, full, startSnapshot, Hold, plain, guarded, e3, refusedBy, Pair, pair, pairOf, inStep, rowsOf, forEach}
+use Rattle.rules.specs.CaseRows.{Start, start, withMarkedR, withClk, fourCells, full, startSnapshot, Hold, plain, guarded, e3, refusedBy, malformed, Pair, pair, pairOf, inStep, rowsOf, forEach}
 
 -- one step
 abbrev once : List ℕ → Start → Called Snapshot
@@ -50,9 +49,6 @@ text cs = plainText cs 1 (startSnapshot start)
 
 abbrev budgetText : List ℕ → Called Snapshot
 budgetText cs = plainBudgetText cs (startSnapshot start)
-
-abbrev malformed : ℕ → Meaning
-malformed n = refusal 2 (n ∷ [])
 
 unfoldable pub entryOrder : List Pair
 entryOrder =
