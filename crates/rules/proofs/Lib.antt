@@ -10,3 +10,4 @@ pub mod NonInterference
 pub mod Soundness
 pub mod Resumption
 pub mod KilostepsRounded
+pub mod TapeWraps

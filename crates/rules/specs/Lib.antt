@@ -34,6 +34,7 @@ pub mod MapCalls
 pub mod Soundness
 pub mod Resumption
 pub mod SplitCalls
+pub mod WrapTest
 -- tables of cases
 pub mod Encoding
 pub mod CaseRows
