@@ -11,3 +11,4 @@ pub mod Soundness
 pub mod Resumption
 pub mod KilostepsRounded
 pub mod TapeWraps
+pub mod SolveLines

@@ -1,20 +1,19 @@
 -- TLOAD's test of dst and count: where it refuses, the first value's store is refused the same.
-use Prim.Native.Nat.{ℕ, suc, _+_, _-_, _≤_, _<_, min}
-use mathlib.Core.Path.{_≡_, refl, sym, ap, _∙_}
+use Prim.Native.Nat.{ℕ, suc, _+_, _-_, _≤_}
+use mathlib.Core.Path.{_≡_, refl, ap, _∙_}
 use mathlib.Core.Bool.{Bool, true, false, not}
 use mathlib.Core.List.{List, [], _∷_}
 use native.Mathlib.Omega.{arith}
-use lib.Dec.{leb, ltb, eqb}
+use lib.Dec.{leb, eqb}
 use lib.ListN.{length, take, drop, replicate, length-take, length-drop, length-replicate}
 use borrow.Author.Tests.{leb-true, le-ltb, le-leb}
 use Rattle.rules.specs.declared.Instruction.{Instruction}
 use Rattle.rules.specs.declared.Refusal.{Refusal}
 use Rattle.rules.specs.declared.Refusal.the-variants.{TapeFault, StoreFault, ProphetStore}
 use Rattle.rules.specs.Numbers.{p, heapEnd, wordEnd, valueLimit, choose}
-use Rattle.rules.specs.Results.{Result, refuse, pass, require, bind}
+use Rattle.rules.specs.Results.{Result, refuse, require, bind}
 use Rattle.rules.specs.Memory.{Memory}
 use Rattle.rules.specs.Opcodes.{tapeLoad}
-use Rattle.rules.specs.Operands.{Operands}
 use Rattle.rules.specs.Step.{Environment, State, isStorable, onTape, tapeValues, wraps, storeMany, operate}
 use Rattle.rules.specs.Cells.{numberCells}
 use Rattle.rules.specs.Entry.{plainEntry, guardedEntry, environment}

@@ -17,7 +17,8 @@ pub mod Entry
 pub mod Calls
 pub mod Handed
 pub mod Solve
--- statements about them: the frame of refusal 2, kilosteps, marks and sinks, demand 3, the plain map, soundness
+-- statements about them: what every call promises (demand 1), the frame of refusal 2, kilosteps, marks and sinks, demand 3, the plain map
+-- (demand 2), soundness, runs in parts, TLOAD's test of its count, how much `solve` prints
 pub mod EveryCall
 pub mod MalformedFrames
 pub mod NearestThousand
@@ -35,6 +36,7 @@ pub mod Soundness
 pub mod Resumption
 pub mod SplitCalls
 pub mod WrapTest
+pub mod SolveFits
 -- tables of cases
 pub mod Encoding
 pub mod CaseRows

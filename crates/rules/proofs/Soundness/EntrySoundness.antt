@@ -61,7 +61,7 @@ zipped-below (b ∷ l) (u ∷ ts) (n ∷ ns) h a v t e =
 
 -- Used parts
 
-used-short : (n : ℕ) (l : List ℕ) → length (take n l) ≤ length l
+pub used-short : (n : ℕ) (l : List ℕ) → length (take n l) ≤ length l
 used-short n l = let e : length (take n l) ≡ min n (length l) = length-take n l in omega arith
 
 used-lengths : (n : ℕ) (k l : List ℕ) → length k ≡ length l → length (take n k) ≡ length (take n l)
