@@ -6,21 +6,31 @@ use lib.ListN.{replicate}
 use Rattle.rules.specs.declared.OlaOpcode.the-variants as O
 use Rattle.rules.specs.declared.OlaOperand.the-variants.{Absent, Immediate, Register}
 use Rattle.rules.specs.Numbers.{defaultPsp}
+use Rattle.rules.specs.Frames.{loadWords}
+use Rattle.rules.specs.Text.{loadText}
 use Rattle.rules.specs.Answers.{Meaning, outcome, refusal}
 use Rattle.rules.specs.Entry.{GuardedSnapshot}
-use Rattle.rules.specs.Calls.{guardedWords}
-use Rattle.rules.specs.Encoding.{frame}
-use Rattle.rules.specs.CaseRows.{start, withR, withMarkedR, withCell, guardedStartSnapshot, markedRegisterAt, markedCellAt}
+use Rattle.rules.specs.Calls.{Called, guardedWords, guardedText, guardedBudgetText}
+use Rattle.rules.specs.Encoding.{frame, bytes}
+use Rattle.rules.specs.CaseRows.{start, withR, withMarkedR, withCell, withMarkedCell, guardedStartSnapshot, markedRegisterAt, markedCellAt}
 use Rattle.rules.specs.NonInterference.{MarkedBelow, Alike, SameCalls}
 
--- two starts of one program that differ and are alike, each marked number below p; the answers and steps of their calls, which are the same
-pub record Witness (words : List ℕ) (budget : ℕ) (g h : GuardedSnapshot) (answer : Meaning) (steps : ℕ) : Type 0 where
+-- two starts of one call that differ and are alike, each marked number below p; the answers and steps of the calls, which are the same
+pub record Witness (call : GuardedSnapshot → Called GuardedSnapshot) (g h : GuardedSnapshot) (answer : Meaning) (steps : ℕ) : Type 0 where
   pub differ : g ≡ h → ⊥
   pub alike : Alike g h
   pub below : MarkedBelow g × MarkedBelow h
-  pub same : SameCalls (guardedWords words budget g) (guardedWords words budget h)
-  pub answers : guardedWords words budget g .answer ≡ answer
-  pub stepped : guardedWords words budget g .steps ≡ steps
+  pub same : SameCalls (call g) (call h)
+  pub answers : call g .answer ≡ answer
+  pub stepped : call g .steps ≡ steps
+
+-- both end, and leave these numbers, each with its mark, at the places that are looked at
+pub record Carried (call : GuardedSnapshot → Called GuardedSnapshot) (g h : GuardedSnapshot) (steps : ℕ) (look : GuardedSnapshot → List ℕ) (ofG ofH : List ℕ) : Type 0 where
+  pub ends : Witness call g h (outcome 0 []) steps
+  pub first : look (call g .left) ≡ ofG
+  pub second : look (call h .left) ≡ ofH
+
+-- A marked register
 
 -- R1 is marked and holds n; R9 is 5, and cell 4 holds 5, the pc of END below
 unfoldable pub secret : ℕ → GuardedSnapshot
@@ -42,10 +52,51 @@ leaks = frame O.Eq (Register 1) (Register 1) (Register 0) ++ frame O.Cjmp (Regis
 abbrev pub marksCarried : GuardedSnapshot → List ℕ
 marksCarried g = markedRegisterAt 2 g ++ (markedRegisterAt 9 g ++ markedCellAt 3 g)
 
-pub record MarksCarried : Type 0 where
-  pub ends : Witness carries 10 (secret 7) (secret 8) (outcome 0 []) 4
-  pub seven : marksCarried (guardedWords carries 10 (secret 7) .left) ≡ 7 ∷ 1 ∷ 7 ∷ 1 ∷ 7 ∷ 1 ∷ []
-  pub eight : marksCarried (guardedWords carries 10 (secret 8) .left) ≡ 8 ∷ 1 ∷ 8 ∷ 1 ∷ 8 ∷ 1 ∷ []
+abbrev pub MarksCarried : Type 0
+MarksCarried =
+    Carried (guardedWords carries 10) (secret 7) (secret 8) 4 marksCarried (7 ∷ 1 ∷ 7 ∷ 1 ∷ 7 ∷ 1 ∷ []) (8 ∷ 1 ∷ 8 ∷ 1 ∷ 8 ∷ 1 ∷ [])
+
+-- A marked cell, of a program as bare words and as text
+
+-- cell 3 is marked and holds n
+unfoldable pub secretCell : ℕ → GuardedSnapshot
+secretCell n = guardedStartSnapshot (withMarkedCell 3 n start)
+
+-- the mark goes from cell 3 through MLOAD to R1, through ADD of 1 to R2, and through MSTORE to cell 6; then END
+unfoldable pub passesOn : List ℕ
+passesOn =
+    frame O.Mload (Immediate 0) (Immediate 3) (Register 1)
+    ++ (frame O.Add (Register 1) (Immediate 1) (Register 2)
+    ++ (frame O.Mstore (Immediate 0) (Immediate 6) (Register 2)
+    ++ frame O.End Absent Absent Absent))
+
+-- a line for each of its frames
+unfoldable pub passesOnLines : List ℕ
+passesOnLines =
+    bytes "000000020000890900000000000000000000000000000003\n"
+    ++ (bytes "0020000400008a000000000000000001\n"
+    ++ (bytes "000000040000890a00000000000000000000000000000006\n"
+    ++ bytes "000000000000000b\n"))
+
+-- TSTORE of cell 3 alone
+unfoldable pub showsLine : List ℕ
+showsLine = bytes "000000000000091700000000000000030000000000000001\n"
+
+-- a call of `passesOn` from a 7 and from an 8: R1, R2, cell 3 and cell 6 afterwards, each with its mark
+abbrev pub CellCarried : (GuardedSnapshot → Called GuardedSnapshot) → Type 0
+CellCarried call =
+    Carried call (secretCell 7) (secretCell 8) 4 (λ g. markedRegisterAt 1 g ++ (markedRegisterAt 2 g ++ (markedCellAt 3 g ++ markedCellAt 6 g)))
+    (7 ∷ 1 ∷ 8 ∷ 1 ∷ 7 ∷ 1 ∷ 8 ∷ 1 ∷ []) (8 ∷ 1 ∷ 9 ∷ 1 ∷ 8 ∷ 1 ∷ 9 ∷ 1 ∷ [])
+
+pub record CellsCarried : Type 0 where
+  pub sameProgram : loadText passesOnLines ≡ loadWords passesOn
+  pub words : CellCarried (guardedWords passesOn 10)
+  pub text : CellCarried (guardedText passesOnLines 10)
+  pub budgetText : CellCarried (guardedBudgetText (bytes "000000000000000a\n" ++ passesOnLines))
+  -- a text that would show the cell
+  pub shown : Witness (guardedText showsLine 1) (secretCell 7) (secretCell 8) (refusal 18 []) 0
+
+-- Beyond the counts
 
 -- nothing is used but R1, and n stands everywhere beyond the counts
 unfoldable pub beyond : ℕ → GuardedSnapshot
@@ -76,12 +127,13 @@ unfoldable pub stores : List ℕ
 stores = frame O.Mstore (Immediate 0) (Immediate 6) (Register 1)
 
 pub record Beyond : Type 0 where
-  pub pauses : Witness stores 1 (beyond 3) (beyond 4) (outcome 3 []) 1
+  pub pauses : Witness (guardedWords stores 1) (beyond 3) (beyond 4) (outcome 3 []) 1
   -- what stood beyond the counts still stands there
   pub addresses : guardedWords stores 1 (beyond 3) .left .plain .addresses ≡ 6 ∷ 3 ∷ []
   pub marks : guardedWords stores 1 (beyond 3) .left .marks ≡ 1 ∷ 3 ∷ []
 
 pub record Witnesses : Type 0 where
   pub carried : MarksCarried
-  pub leaked : Witness leaks 2 (secret 7) (secret 8) (refusal 18 []) 1
+  pub cellsCarried : CellsCarried
+  pub leaked : Witness (guardedWords leaks 2) (secret 7) (secret 8) (refusal 18 []) 1
   pub beyond : Beyond

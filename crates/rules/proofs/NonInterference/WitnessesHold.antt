@@ -2,20 +2,23 @@
 use Prim.Native.Nat.{ℕ, zero, suc}
 use mathlib.Core.Path.{_≡_, refl, ap}
 use mathlib.Core.Bool.{Bool, true, false, _&&_, _||_}
-use mathlib.Core.List.{List, [], _∷_}
+use mathlib.Core.List.{List, [], _∷_, _++_}
 use native.Mathlib.Omega.{arith}
 use lib.Dec.{eqb}
-use lib.ListN.{getD}
+use lib.ListN.{length, getD}
 use borrow.Author.Tests.{eqb-true}
+use Rattle.rules.specs.declared.Instruction.{Instruction}
+use Rattle.rules.specs.Results.{Result}
 use Rattle.rules.specs.Answers.{Meaning}
-use Rattle.rules.specs.Entry.{GuardedSnapshot, usedNumbers, markedRegisters, markedCells, markedBelow}
-use Rattle.rules.specs.Calls.{guardedWords}
-use Rattle.rules.specs.NonInterference.{MarkedBelow, EqualUnless, Alike}
-use Rattle.rules.specs.Witnesses.{Witness, secret, carries, leaks, MarksCarried, beyond, stores, Beyond, Witnesses}
+use Rattle.rules.specs.Entry.{Snapshot, GuardedSnapshot, usedAddresses, usedNumbers, usedTape, usedOutput, usedMarks, markedRegisters, markedCells, markedBelow}
+use Rattle.rules.specs.Calls.{Called}
+use Rattle.rules.specs.Encoding.{bytes}
+use Rattle.rules.specs.NonInterference.{MarkedBelow, EqualUnless, Alike, NonInterference}
+use Rattle.rules.specs.Witnesses.{Witness, secret, carries, leaks, MarksCarried, secretCell, passesOn, passesOnLines, showsLine, CellsCarried, beyond, stores, Beyond, Witnesses}
 use Rattle.rules.proofs.Laws.BoolLaws.{false-true, and-left, and-right}
 use Rattle.rules.proofs.Laws.EntryLaws.{markedBelow-at}
 use Rattle.rules.proofs.Cases.Unfolding.{calling}
-use Rattle.rules.proofs.NonInterference.NonInterferenceHolds.{words-hold}
+use Rattle.rules.proofs.NonInterference.NonInterferenceHolds.{words-hold, text-holds, budget-text-holds}
 
 -- a test of two lists under marks, and what it says of each place
 abbrev alikeUnder : List Bool → List ℕ → List ℕ → Bool
@@ -51,111 +54,137 @@ below g h k =
       cells = markedBelow-at (markedCells g) (usedNumbers (g .plain)) k;
     }
 
-secret-alike : Alike (secret 7) (secret 8)
-unfolding secret calling
-secret-alike =
+-- what alike starts have in common, in lists: single numbers, counts, lengths, and used parts but for the numbers
+abbrev common : GuardedSnapshot → List (List ℕ)
+common g =
+    let s = g .plain in
+    let m = s .machine in
+    (m .pc ∷ m .clk ∷ m .psp ∷ g .extras .registers ∷ [])
+    ∷ (m .«cell_count» ∷ m .«tape_count» ∷ m .«output_count» ∷ [])
+    ∷ (length (s .addresses) ∷ length (s .numbers) ∷ length (g .marks) ∷ length (s .tape) ∷ length (s .output) ∷ [])
+    ∷ m .«storage_addr»
+    ∷ usedAddresses s
+    ∷ usedMarks g
+    ∷ usedTape s
+    ∷ usedOutput s
+    ∷ []
+
+-- alike, by lists and tests that are computed
+alike : (g h : GuardedSnapshot) → common g ≡ common h → (length (g .plain .machine .registers) ≡ 10) × (length (h .plain .machine .registers) ≡ 10)
+    → alikeUnder (markedRegisters g) (g .plain .machine .registers) (h .plain .machine .registers) ≡ true
+    → alikeUnder (markedCells g) (usedNumbers (g .plain)) (usedNumbers (h .plain)) ≡ true → Alike g h
+alike g h e ten r c =
     record {
-      pc = refl;
-      clk = refl;
-      psp = refl;
-      storage = refl;
-      cellCount = refl;
-      tapeCount = refl;
-      outputCount = refl;
-      addressLength = refl;
-      numberLength = refl;
-      markLength = refl;
-      tapeLength = refl;
-      outputLength = refl;
-      addresses = refl;
-      marks = refl;
-      tape = refl;
-      output = refl;
-      numbers = places (markedCells (secret 7)) (usedNumbers (secret 7 .plain)) (usedNumbers (secret 8 .plain)) refl;
-      registerMarks = refl;
-      ten = (refl, refl);
-      registers = places (markedRegisters (secret 7)) (secret 7 .plain .machine .registers) (secret 8 .plain .machine .registers) refl;
+      pc = number 0 0;
+      clk = number 0 1;
+      psp = number 0 2;
+      storage = list 3;
+      cellCount = number 1 0;
+      tapeCount = number 1 1;
+      outputCount = number 1 2;
+      addressLength = number 2 0;
+      numberLength = number 2 1;
+      markLength = number 2 2;
+      tapeLength = number 2 3;
+      outputLength = number 2 4;
+      addresses = list 4;
+      marks = list 5;
+      tape = list 6;
+      output = list 7;
+      numbers = places (markedCells g) (usedNumbers (g .plain)) (usedNumbers (h .plain)) c;
+      registerMarks = number 0 3;
+      ten = ten;
+      registers = places (markedRegisters g) (g .plain .machine .registers) (h .plain .machine .registers) r;
     }
+  where
+    list : (i : ℕ) → getD (common g) i [] ≡ getD (common h) i []
+    list i = ap (λ l. getD l i []) e
 
-secret-below : MarkedBelow (secret 7) × MarkedBelow (secret 8)
-unfolding secret calling
-secret-below = (below (secret 7) refl refl, below (secret 8) refl refl)
+    number : (i j : ℕ) → getD (getD (common g) i []) j 0 ≡ getD (getD (common h) i []) j 0
+    number i j = ap (λ l. getD (getD l i []) j 0) e
 
-secret-differ : secret 7 ≡ secret 8 → ⊥
-unfolding secret calling
-secret-differ e = let z : _≡_ {A = ℕ} 7 8 = ap (λ (g : GuardedSnapshot). getD (g .plain .machine .registers) 1 0) e in omega arith
+-- two starts that differ, are alike, and have each marked number below p
+record Differing (g h : GuardedSnapshot) : Type 0 where
+  differ : g ≡ h → ⊥
+  alike : Alike g h
+  below : MarkedBelow g × MarkedBelow h
 
--- a pair of alike starts is a witness by what one call computes
-witness : (words : List ℕ) (budget : ℕ) (g h : GuardedSnapshot) → (g ≡ h → ⊥) → Alike g h → MarkedBelow g × MarkedBelow h
-    → (answer : Meaning) (steps : ℕ) → guardedWords words budget g .answer ≡ answer → guardedWords words budget g .steps ≡ steps
-    → Witness words budget g h answer steps
-witness words budget g h differ alike below answer steps a s =
+-- they are a witness of every call that demand 3 holds of, by what one call computes
+witness : {program : Result (List Instruction)} {budget : ℕ} {call : GuardedSnapshot → Called GuardedSnapshot} {plain : ℕ → Snapshot → Called Snapshot}
+    → NonInterference program budget call plain → {g h : GuardedSnapshot} → Differing g h
+    → {answer : Meaning} {steps : ℕ} → call g .answer ≡ answer → call g .steps ≡ steps → Witness call g h answer steps
+witness n {g} {h} d a s =
     record {
-      differ = differ;
-      alike = alike;
-      below = below;
-      same = words-hold words budget .agrees g h alike (below .0) (below .1);
+      differ = d .differ;
+      alike = d .alike;
+      below = d .below;
+      same = n .agrees g h (d .alike) (d .below .0) (d .below .1);
       answers = a;
       stepped = s;
     }
 
+-- A marked register
+
+secrets : Differing (secret 7) (secret 8)
+unfolding secret calling
+secrets =
+    record {
+      differ = λ e. let z : _≡_ {A = ℕ} 7 8 = ap (λ (g : GuardedSnapshot). getD (g .plain .machine .registers) 1 0) e in omega arith;
+      alike = alike (secret 7) (secret 8) refl (refl, refl) refl refl;
+      below = (below (secret 7) refl refl, below (secret 8) refl refl);
+    }
+
 carried-holds : MarksCarried
 unfolding secret carries calling
-carried-holds =
+carried-holds = record { ends = witness (words-hold carries 10) secrets refl refl; first = refl; second = refl }
+
+-- A marked cell
+
+secret-cells : Differing (secretCell 7) (secretCell 8)
+unfolding secretCell calling
+secret-cells =
     record {
-      ends = witness carries 10 (secret 7) (secret 8) secret-differ secret-alike secret-below _ _ refl refl;
-      seven = refl;
-      eight = refl;
+      differ = λ e. let z : _≡_ {A = ℕ} 7 8 = ap (λ (g : GuardedSnapshot). getD (g .plain .numbers) 0 0) e in omega arith;
+      alike = alike (secretCell 7) (secretCell 8) refl (refl, refl) refl refl;
+      below = (below (secretCell 7) refl refl, below (secretCell 8) refl refl);
     }
 
-beyond-alike : Alike (beyond 3) (beyond 4)
-unfolding beyond calling
-beyond-alike =
+cells-carried : CellsCarried
+unfolding secretCell passesOn passesOnLines showsLine calling
+cells-carried =
     record {
-      pc = refl;
-      clk = refl;
-      psp = refl;
-      storage = refl;
-      cellCount = refl;
-      tapeCount = refl;
-      outputCount = refl;
-      addressLength = refl;
-      numberLength = refl;
-      markLength = refl;
-      tapeLength = refl;
-      outputLength = refl;
-      addresses = refl;
-      marks = refl;
-      tape = refl;
-      output = refl;
-      numbers = places (markedCells (beyond 3)) (usedNumbers (beyond 3 .plain)) (usedNumbers (beyond 4 .plain)) refl;
-      registerMarks = refl;
-      ten = (refl, refl);
-      registers = places (markedRegisters (beyond 3)) (beyond 3 .plain .machine .registers) (beyond 4 .plain .machine .registers) refl;
+      sameProgram = refl;
+      words = record { ends = witness (words-hold passesOn 10) secret-cells refl refl; first = refl; second = refl };
+      text = record { ends = witness (text-holds passesOnLines 10) secret-cells refl refl; first = refl; second = refl };
+      budgetText = record {
+        ends = witness (budget-text-holds (bytes "000000000000000a\n" ++ passesOnLines)) secret-cells refl refl;
+        first = refl;
+        second = refl;
+      };
+      shown = witness (text-holds showsLine 1) secret-cells refl refl;
     }
 
-beyond-below : MarkedBelow (beyond 3) × MarkedBelow (beyond 4)
-unfolding beyond calling
-beyond-below = (below (beyond 3) refl refl, below (beyond 4) refl refl)
+-- Beyond the counts
 
-beyond-differ : beyond 3 ≡ beyond 4 → ⊥
-unfolding beyond
-beyond-differ e = let z : _≡_ {A = ℕ} 3 4 = ap (λ (g : GuardedSnapshot). getD (g .marks) 0 0) e in omega arith
+beyonds : Differing (beyond 3) (beyond 4)
+unfolding beyond calling
+beyonds =
+    record {
+      differ = λ e. let z : _≡_ {A = ℕ} 3 4 = ap (λ (g : GuardedSnapshot). getD (g .marks) 0 0) e in omega arith;
+      alike = alike (beyond 3) (beyond 4) refl (refl, refl) refl refl;
+      below = (below (beyond 3) refl refl, below (beyond 4) refl refl);
+    }
 
 beyond-holds : Beyond
 unfolding beyond stores calling
-beyond-holds =
-    record {
-      pauses = witness stores 1 (beyond 3) (beyond 4) beyond-differ beyond-alike beyond-below _ _ refl refl;
-      addresses = refl;
-      marks = refl;
-    }
+beyond-holds = record { pauses = witness (words-hold stores 1) beyonds refl refl; addresses = refl; marks = refl }
 
 pub witnesses : Witnesses
 unfolding secret leaks calling
 witnesses =
     record {
       carried = carried-holds;
-      leaked = witness leaks 2 (secret 7) (secret 8) secret-differ secret-alike secret-below _ _ refl refl;
+      cellsCarried = cells-carried;
+      leaked = witness (words-hold leaks 2) secrets refl refl;
       beyond = beyond-holds;
     }
