@@ -8,8 +8,8 @@ use lib.Dec.{eqb, ltb}
 use lib.ListN.{length, take, drop, getD, length-drop, drop-of-length-le}
 use lib.Seq.{drop-cons, drop-drop}
 use borrow.Author.Tests.{eq-eqb, ne-eqb, ltb-true, ltb-false}
-use Rattle.rules.specs.Numbers.{choose}
 use Rattle.rules.specs.Text.{ended, unended, lineFeed, linesAfter, linesOf}
+use Rattle.rules.proofs.EntryRefusals.TextSizes.{lines-step}
 use Rattle.frames.proofs.Cases.{cases}
 use Rattle.program_text.specs.TextLines.{lineLength}
 
@@ -23,20 +23,15 @@ length-other text i h n = ap lineLength (drop-cons text i 0 h) ∙ rw (ne-eqb (g
 pub length-end : (text : List ℕ) (i : ℕ) → length text ≤ i → lineLength (drop i text) ≡ 0
 length-end text i h = ap lineLength (drop-of-length-le text h)
 
--- a line feed ends a line, whatever stands before
-step : (l : List ℕ) (c : ℕ) (cs : List ℕ) → linesAfter l (c ∷ cs) ≡ choose (eqb c lineFeed) (ended l ∷ linesAfter [] cs) (linesAfter (l ++ (c ∷ [])) cs)
-unfolding linesAfter
-step [] c cs = refl
-step (d ∷ l) c cs = refl
-
+-- the first line feed ends the line
 ends : (l t : List ℕ) → lineLength t < length t → linesAfter l t ≡ ended (l ++ take (lineLength t) t) ∷ linesAfter [] (drop (suc (lineLength t)) t)
 ends l [] h = absurd (not-suc-le-zero h)
 ends l (c ∷ cs) h =
     cases (eqb c lineFeed)
-    (λ e. step l c cs ∙ rw (e, append-nil))
+    (λ e. lines-step l c cs ∙ rw (e, append-nil))
     (λ e.
     let h′ : suc (lineLength cs) < suc (length cs) = rw e at h in
-    step l c cs ∙ rw e (ends (l ++ (c ∷ [])) cs (le-of-suc-le-suc h′) ∙ rw append-assoc))
+    lines-step l c cs ∙ rw e (ends (l ++ (c ∷ [])) cs (le-of-suc-le-suc h′) ∙ rw append-assoc))
 
 -- and where there is none, the rest is not ended
 runs-out : (d : ℕ) (l t : List ℕ) → lineLength t ≡ length t → linesAfter (d ∷ l) t ≡ unended ∷ []

@@ -1,8 +1,9 @@
 -- What a conjunction or a disjunction of tests says of each of them, and back.
-use Prim.Native.Nat.{ℕ}
+use Prim.Native.Nat.{ℕ, _≤_}
 use mathlib.Core.Path.{_≡_, refl, sym, ap, _∙_}
 use mathlib.Core.Bool.{Bool, true, false, _&&_, _||_}
 use native.Mathlib.Omega.{arith}
+use Rattle.rules.specs.Numbers.{bit}
 
 pub false-true : _≡_ {A = Bool} false true → ⊥
 false-true e = let z : _≡_ {A = ℕ} 0 1 = cc in omega arith
@@ -50,3 +51,8 @@ or-second false e = e
 pub or-case : {X : Type 0} (a b : Bool) → (a || b) ≡ true → (a ≡ true → X) → (b ≡ true → X) → X
 or-case true b h f g = f refl
 or-case false b h f g = g h
+
+-- the number of a test is 0 or 1
+pub bit-one : (b : Bool) → bit b ≤ 1
+bit-one true = omega arith
+bit-one false = omega arith

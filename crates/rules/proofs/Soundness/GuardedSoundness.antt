@@ -8,7 +8,7 @@ use lib.Dec.{eqb}
 use lib.ListN.{length, getD}
 use borrow.Author.Tests.{eq-eqb}
 use Rattle.rules.specs.declared.Instruction.{Instruction}
-use Rattle.rules.specs.Numbers.{p, choose, bit}
+use Rattle.rules.specs.Numbers.{p, choose}
 use Rattle.rules.specs.Results.{pass, GuardedResult, passes}
 use Rattle.rules.specs.Memory.{present}
 use Rattle.rules.specs.Cells.{Cells, none, cell, get, put, addresses, RisingFrom, numberCells, markCells}
@@ -18,7 +18,7 @@ use Rattle.rules.specs.Step.{Environment, State, RunEnd, contentValue}
 use Rattle.rules.specs.Guarded.{registerMark, cellMark, MarkState, cleanMany, marksAfter, GuardedState, GuardedNext, guardedRest, guardedStep, onGuardedStep, guardedRun}
 use Rattle.rules.specs.Relations.{Both, passed}
 use Rattle.rules.specs.Soundness.{Sound, GuardedSound, KeepsSound}
-use Rattle.rules.proofs.Laws.BoolLaws.{false-true}
+use Rattle.rules.proofs.Laws.BoolLaws.{false-true, bit-one}
 use Rattle.rules.proofs.Laws.CellLaws.{get-put, other-address}
 use Rattle.rules.proofs.Laws.Passing.{passing-at, PassingGuarded, refused-guarded, sink-guarded, passed-guarded, passing-after, passing-after-any, passing-guard, finish-keeps}
 use Rattle.rules.proofs.Soundness.PlainSoundness.{operate-keeps, capacity-sound, output-within, step-sound, run-sound}
@@ -100,10 +100,6 @@ beside-cell {k} h a v t e = go (subst (λ x. Both (Related (cellMark markCells k
 
 abbrev ZeroOrOne : Cells ℕ → Type 0
 ZeroOrOne c = (a t : ℕ) → get c a ≡ present t → t ≤ 1
-
-bit-one : (b : Bool) → bit b ≤ 1
-bit-one true = omega arith
-bit-one false = omega arith
 
 put-bit : (c : Cells ℕ) (a v : ℕ) → v ≤ 1 → ZeroOrOne c → ZeroOrOne (put c a v)
 put-bit c a v l h x w e = go (eqb a x) (sym (get-put c a v x) ∙ e)
