@@ -4,8 +4,13 @@ use hexadecimal::Put;
 use libc::STDIN_FILENO;
 use libc::STDOUT_FILENO;
 
-// The lines have a first one of fewer than 100 characters and at most 4,096 values of up to 16 digits, so that they fit.
+// The lines have at most 69,703 characters (crate rules, SolveFits), so that they fit.
 const LINES_SIZE: usize = 70_000;
+
+// Requires what never holds: where it is called is proved to be never reached.
+fn unreachable()
+    requires { ⌜ ⊥ ⌝ }
+{}
 
 // An input that fills the buffer is too long for a text, and is not read to its end.
 fn main() {
@@ -16,6 +21,6 @@ fn main() {
         Put::Next(end) => {
             io::write_all(STDOUT_FILENO, &lines[..end]);
         }
-        Put::NoSpace => {}
+        Put::NoSpace => unreachable(),
     }
 }

@@ -1,6 +1,7 @@
--- `main` keeps within its buffers: what is printed was written.
+-- `main` keeps within its buffers: what is printed was written; and the lines always fit.
 use mathlib.Core.Path.{sym}
 use lib.Seq.{length-take-le}
+use Rattle.executor.proofs.Solving.{lines-fit}
 use Rattle.solve.proofs.Written.{written-within}
 use borrow.Author.Needs.{needs}
 use Rattle.solve.proofs.main.Statement.{statement}
@@ -42,6 +43,9 @@ write-all-requires c κs = search needs
 enum-told : tie.Need-enum-told
 enum-told c = search needs
 
+unreachable-requires : tie.Need-unreachable-requires
+unreachable-requires c κs = lines-fit _ _ _ _ (c .before .before .before .solve .ensures) (c .enum-told .given .1) (search needs)
+
 returns : tie.Need-returns
 returns c = search needs
 
@@ -63,5 +67,6 @@ main-spec =
     slice-aggregate-write-all
     write-all-requires
     enum-told
+    unreachable-requires
     returns
     returns-2)
