@@ -70,13 +70,13 @@ returns-10 c =
     let t₁ = t₂ .before .before in
     numbers-decide _
     (t₁ .if1 .left)
-    (t₂ .if2 .left)
-    (t₃ .if3 .left)
-    (t₄ .if4 .left)
-    (t₅ .if5 .left)
-    (t₆ .if6 .left)
-    (t₇ .if7 .left)
-    (t₈ .if8 .left)
+    (omega (arith, t₂ .if2 .left))
+    (omega (arith, t₃ .if3 .left))
+    (omega (arith, t₄ .if4 .left))
+    (omega (arith, t₅ .if5 .left))
+    (omega (arith, t₆ .if6 .left))
+    (omega (arith, t₇ .if7 .left))
+    (omega (arith, t₈ .if8 .left))
     (sym (r .rising .ensures ∙ ap (risingFrom 0) (r .before .used .ensures)) ∙ not-false _ (t₉ .if9 .left))
     (c .at-most .ensures ∙ ap (every (λ n. leb n p)) (c .before .used2 .ensures))
 
