@@ -29,12 +29,12 @@ six = 0x06
 abbrev pub sixes : ℕ
 sixes = 0x0606_0606_0606_0606
 
--- the bit that tells, of a byte, and of all eight
-abbrev pub sixth : ℕ
-sixth = 0x40
+-- bit 6, which tells: of a byte, and of all eight
+abbrev pub bit6 : ℕ
+bit6 = 0x40
 
-abbrev pub sixths : ℕ
-sixths = 0x4040_4040_4040_4040
+abbrev pub bits6 : ℕ
+bits6 = 0x4040_4040_4040_4040
 
 -- the bits that no digit has
 abbrev pub high : ℕ
@@ -55,7 +55,7 @@ digits-of w = bitXor (moved-of w) 0x3030_3030_3030_3030
 
 abbrev pub wrong-of : ℕ → ℕ
 wrong-of w =
-    bitOr (bitAnd (digits-of w) highs) (bitAnd (bitXor (moved-of w + sixes) w) sixths)
+    bitOr (bitAnd (digits-of w) highs) (bitAnd (bitXor (moved-of w + sixes) w) bits6)
 
 -- and of one byte
 abbrev letter : ℕ → ℕ
@@ -71,7 +71,7 @@ abbrev other : ℕ → ℕ
 other x = bitXor (moved x + six) x
 
 abbrev wrong : ℕ → ℕ
-wrong x = bitOr (bitAnd (digit x) high) (bitAnd (other x) sixth)
+wrong x = bitOr (bitAnd (digit x) high) (bitAnd (other x) bit6)
 
 -- the word by its bytes
 letter-lanes : (n w : ℕ) → bitAnd (w / 64) (rep 1 n) ≡ lanes letter n w
@@ -122,10 +122,10 @@ module _ (w : ℕ) (h : w < 2 ^ 64) where
   wrong-lanes =
       let d : bitAnd (digits-of w) highs ≡ lanes (λ x. bitAnd (digit x) high) 8 w =
       ap₂ (λ (a b : ℕ). bitAnd a b) digit-lanes (rep-lanes high 8 w) ∙ and-lanes digit (λ _. high) (tested digit tt) (λ x b. lit< tt) 8 w in
-      let o : bitAnd (bitXor (moved-of w + sixes) w) sixths ≡ lanes (λ x. bitAnd (other x) sixth) 8 w =
-      ap₂ (λ (a b : ℕ). bitAnd a b) other-lanes (rep-lanes sixth 8 w) ∙ and-lanes other (λ _. sixth) (tested other tt) (λ x b. lit< tt) 8 w in
+      let o : bitAnd (bitXor (moved-of w + sixes) w) bits6 ≡ lanes (λ x. bitAnd (other x) bit6) 8 w =
+      ap₂ (λ (a b : ℕ). bitAnd a b) other-lanes (rep-lanes bit6 8 w) ∙ and-lanes other (λ _. bit6) (tested other tt) (λ x b. lit< tt) 8 w in
       ap₂ (λ (a b : ℕ). bitOr a b) d o
-      ∙ or-lanes (λ x. bitAnd (digit x) high) (λ x. bitAnd (other x) sixth) (tested (λ x. bitAnd (digit x) high) tt) (tested (λ x. bitAnd (other x) sixth) tt) 8 w
+      ∙ or-lanes (λ x. bitAnd (digit x) high) (λ x. bitAnd (other x) bit6) (tested (λ x. bitAnd (digit x) high) tt) (tested (λ x. bitAnd (other x) bit6) tt) 8 w
 
 -- one byte: tested at all 256
 same : HexWord → HexWord → Bool
