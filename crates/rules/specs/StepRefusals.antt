@@ -210,7 +210,7 @@ outcomes =
     -- e0: the output is not cleared
     row (plain 9 (tapeStore 0 2 ++ end) (fourCells start)) usedOutput e0 2 (5 ∷ 6 ∷ [])
     ∷ row (plain 9 (tapeStore 0 2 ++ end) (fourCells start)) usedTape e0 2 (5 ∷ 6 ∷ [])
-    -- e1, e2: behind what the tape has caller, callee, and then callee, caller; the output becomes empty, and its buffer is not cleared
+    -- e1, e2: caller, callee, and then callee, caller, behind what the tape has; the output becomes empty, and its buffer is not cleared
     ∷ row (plain 9 (contractCall 0) (fourCells start)) usedTape (outcome 1 callee) 1 (caller ++ (callee ++ callee))
     ∷ row (plain 9 (contractCall 1) (withTape (9 ∷ []) (fourCells start))) usedTape (outcome 2 callee) 1 (9 ∷ (caller ++ (callee ++ caller)))
     ∷ row (plain 9 (tapeStore 0 2 ++ contractCall 1) (withFree 0 14 4 (fourCells start))) usedOutput (outcome 2 callee) 2 []
