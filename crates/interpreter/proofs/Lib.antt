@@ -1,8 +1,5 @@
 -- Laws of the loop, and for the crates above what a run gives by its mode.
-pub mod Parts
-pub mod Fitting
-pub mod Holding
-pub mod Arms
+pub mod Loading
 pub mod Refusing
 pub mod Preparing
 pub mod Iterating

@@ -1,4 +1,2 @@
--- What the loop holds, what a step leaves, and what a run gives.
-pub mod Cores
-pub mod Steps
+-- What a run takes, and what it gives.
 pub mod Runs

@@ -1,8 +1,8 @@
--- `interpreter::carrying::marks_after` meets its contract.
-use Rattle.interpreter.specs.Steps.{registerMarksAfter}
+-- `carrying::marks_after` meets its contract.
+use Rattle.carrying.specs.Steps.{registerMarksAfter}
 use borrow.Author.Needs.{needs}
-use Rattle.interpreter.proofs.carrying.marks_after.Statement.{statement}
-use Rattle.interpreter.proofs.carrying.marks_after.Tie as tie
+use Rattle.carrying.proofs.marks_after.Statement.{statement}
+use Rattle.carrying.proofs.marks_after.Tie as tie
 
 with-mark-requires : tie.Need-with-mark-requires
 with-mark-requires c κs = search needs

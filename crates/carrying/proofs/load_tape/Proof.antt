@@ -1,4 +1,4 @@
--- `interpreter::carrying::load_tape` meets its contract.
+-- `carrying::load_tape` meets its contract.
 use Prim.Native.Nat.{_+_, _-_}
 use mathlib.Core.Path.{_≡_}
 use native.Mathlib.Omega.{arith}
@@ -6,8 +6,8 @@ use lib.ListN.{length}
 use Rattle.effects.specs.Carrying.{part}
 use Rattle.effects.proofs.ReadValues.{part-length}
 use borrow.Author.Needs.{needs}
-use Rattle.interpreter.proofs.carrying.load_tape.Statement.{statement}
-use Rattle.interpreter.proofs.carrying.load_tape.Tie as tie
+use Rattle.carrying.proofs.load_tape.Statement.{statement}
+use Rattle.carrying.proofs.load_tape.Tie as tie
 
 add-end : tie.Need-add-end
 add-end c = search needs

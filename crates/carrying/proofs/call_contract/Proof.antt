@@ -1,13 +1,13 @@
--- `interpreter::carrying::call_contract` meets its contract: the four words that were read are the callee.
+-- `carrying::call_contract` meets its contract: the four words that were read are the callee.
 use Prim.Native.Nat.{_≤_}
 use mathlib.Core.Path.{_≡_, ap, _∙_}
 use native.Mathlib.Omega.{arith}
 use lib.ListN.{length}
 use Rattle.effects.proofs.ReadValues.{part-length}
-use Rattle.interpreter.proofs.Parts.{call-tape, delegate-answer, call-answer}
+use Rattle.carrying.proofs.Parts.{call-tape, delegate-answer, call-answer}
 use borrow.Author.Needs.{needs}
-use Rattle.interpreter.proofs.carrying.call_contract.Statement.{statement}
-use Rattle.interpreter.proofs.carrying.call_contract.Tie as tie
+use Rattle.carrying.proofs.call_contract.Statement.{statement}
+use Rattle.carrying.proofs.call_contract.Tie as tie
 
 read-four-requires : tie.Need-read-four-requires
 read-four-requires c κs = search needs

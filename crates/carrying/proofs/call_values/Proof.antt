@@ -1,10 +1,10 @@
--- `interpreter::carrying::call_values` meets its contract: arrays of four words, one after the other.
+-- `carrying::call_values` meets its contract: arrays of four words, one after the other.
 use mathlib.Core.Path.{_≡_}
 use lib.ListN.{length}
-use Rattle.interpreter.proofs.Parts.{delegated, called}
+use Rattle.carrying.proofs.Parts.{delegated, called}
 use borrow.Author.Needs.{needs}
-use Rattle.interpreter.proofs.carrying.call_values.Statement.{statement}
-use Rattle.interpreter.proofs.carrying.call_values.Tie as tie
+use Rattle.carrying.proofs.call_values.Statement.{statement}
+use Rattle.carrying.proofs.call_values.Tie as tie
 
 array-read-s0 : tie.Need-array-read-s0
 array-read-s0 c = search needs

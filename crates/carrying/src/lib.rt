@@ -1,6 +1,6 @@
-// Effects carried out. Buffers are written by the functions of `hardware` alone.
-use crate::Finish;
-use crate::Stepped;
+// Effects carried out: on the registers, which are among the values, and on the buffers, which the functions of `hardware` alone write.
+//
+// Internal, for the crates above: `carry_out`.
 use effects::Counts;
 use effects::Effect;
 use effects::EffectKind;
@@ -18,8 +18,23 @@ ghost use Rattle.rules.specs.Guarded.{cleanMany};
 ghost use Rattle.hardware.specs.Buffers.{cellsOf, putMany, Ordered, Holding};
 ghost use Rattle.effects.specs.Effects.{meant, Placed};
 ghost use Rattle.effects.specs.Carrying.{part, callValues};
-ghost use Rattle.interpreter.specs.Cores.{coreOf};
-ghost use Rattle.interpreter.specs.Steps.{callAnswer, registerMarksAfter, clkAfter, coreAfter, Carriable, CarriedOut};
+ghost use Rattle.carrying.specs.Cores.{coreOf};
+ghost use Rattle.carrying.specs.Steps.{callAnswer, registerMarksAfter, clkAfter, coreAfter, Carriable, CarriedOut};
+
+// How a step leaves the run: it goes on; it ends or calls; or the step is refused.
+pub enum Finish {
+    GoesOn,
+    Leaves(Answer),
+    Refuses(Answer),
+}
+
+// What a step leaves, beside what it wrote into registers and buffers.
+pub struct Stepped {
+    pub pc: u64,
+    pub counts: Counts,
+    pub extras: Marks,
+    pub finish: Finish,
+}
 
 // The registers' marks after one register was written; in a plain run they rest.
 fn marks_after(mode: Mode, register: usize, mark: bool) -> Marks
@@ -117,7 +132,7 @@ fn call_contract(
 // Carries an effect out: registers, which are the first of the values, and buffers are changed in place, the rest is handed back. `mark`
 // is that of the registers that the effect's number is made of. clk is not looked at: 0 stands for it in what is required, and what is
 // promised holds for any.
-pub(crate) fn carry_out(
+pub fn carry_out(
     mode: Mode,
     effect: Effect,
     mark: bool,

@@ -1,4 +1,4 @@
--- `interpreter::carrying::carry_out` meets its contract: a law for each kind of effect.
+-- `carrying::carry_out` meets its contract: a law for each kind of effect.
 use Prim.Native.Nat.{ℕ, _<_}
 use mathlib.Core.Path.{_≡_, refl, ap, subst}
 use mathlib.Core.Bool.{Bool}
@@ -10,12 +10,12 @@ use borrow.Author.Needs.{needs}
 use Rattle.effects.specs.declared.EffectKind.{EffectKind}
 use Rattle.effects.specs.declared.Effect.{Effect}
 use Rattle.effects.specs.Effects.{Change, byKind, meant, placedBy, Placed}
-use Rattle.interpreter.specs.Cores.{Core, coreOf}
-use Rattle.interpreter.proofs.Arms.{Applies, applies, register-named, write-asks, insert-asks, load-asks, tape-asks, output-asks, call-asks}
-use Rattle.interpreter.proofs.Arms.{sets-register, writes-cell, stores-cell, jumps, loads-tape, stores-tape, calls-contract}
-use Rattle.interpreter.proofs.Arms.{ends-run, refuses-step, sinks}
-use Rattle.interpreter.proofs.carrying.carry_out.Statement.{statement}
-use Rattle.interpreter.proofs.carrying.carry_out.Tie as tie
+use Rattle.carrying.specs.Cores.{Core, coreOf}
+use Rattle.carrying.proofs.Arms.{Applies, applies, register-named, write-asks, insert-asks, load-asks, tape-asks, output-asks, call-asks}
+use Rattle.carrying.proofs.Arms.{sets-register, writes-cell, stores-cell, jumps, loads-tape, stores-tape, calls-contract}
+use Rattle.carrying.proofs.Arms.{ends-run, refuses-step, sinks}
+use Rattle.carrying.proofs.carry_out.Statement.{statement}
+use Rattle.carrying.proofs.carry_out.Tie as tie
 
 abbrev core : ℕ → tie.Start → Core
 core clk s =
