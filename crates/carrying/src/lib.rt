@@ -1,4 +1,4 @@
-// Effects carried out: on the registers, which are among the values, and on the buffers, which the functions of `hardware` alone write.
+// Effects carried out: on the registers, which are among the values, and on the buffers, which the functions of `storing` alone write.
 //
 // Internal, for the crates above: `carry_out`.
 use effects::Counts;
@@ -75,7 +75,7 @@ fn load_tape(
         (now (addresses .exit)) (now (numbers .exit)) (now (marks .exit)) ⌝ }
 {
     let end = from + n;
-    hardware::cells::store_many(
+    storing::cells::store_many(
         guarded,
         count,
         address,
@@ -122,7 +122,7 @@ fn call_contract(
 {
     let callee = hardware::cells::read_four(at, numbers);
     let values = call_values(storage_addr, callee, delegate);
-    hardware::tape::write_values(&values, &mut tape[count..]);
+    storing::tape::write_values(&values, &mut tape[count..]);
     if delegate {
         return Answer::DelegateCalling(callee[0], callee[1], callee[2], callee[3]);
     }
@@ -175,7 +175,7 @@ pub fn carry_out(
             }
         }
         EffectKind::StoreAt => {
-            hardware::cells::write_at(mode.guarded, place, effect.number, mark, numbers, marks);
+            storing::cells::write_at(mode.guarded, place, effect.number, mark, numbers, marks);
             Stepped {
                 pc: next,
                 counts,
@@ -184,7 +184,7 @@ pub fn carry_out(
             }
         }
         EffectKind::Insert => {
-            hardware::cells::insert(
+            storing::cells::insert(
                 mode.guarded,
                 counts.cells,
                 place,
@@ -237,8 +237,8 @@ pub fn carry_out(
             }
         }
         EffectKind::StoreTape => {
-            hardware::cells::append_numbers(counts.tape, place, count, numbers, tape);
-            hardware::cells::append_numbers(counts.output, place, count, numbers, output);
+            storing::cells::append_numbers(counts.tape, place, count, numbers, tape);
+            storing::cells::append_numbers(counts.output, place, count, numbers, output);
             let tape_count = counts.tape + count;
             let output_count = counts.output + count;
             Stepped {

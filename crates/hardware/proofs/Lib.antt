@@ -8,5 +8,3 @@ pub mod PlaceLaws
 pub mod WriteLaws
 pub mod PartLaws
 pub mod BufferLaws
-pub mod OverwriteLaws
-pub mod InsertLaws

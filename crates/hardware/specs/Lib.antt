@@ -1,4 +1,4 @@
--- What the contracts of `hardware` cite beside the rules.
+-- What the contracts of `hardware` and `storing` cite beside the rules.
 pub mod Regions
 pub mod Buffers
 pub mod Places

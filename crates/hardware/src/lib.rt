@@ -1,7 +1,6 @@
-// The machine's memory and tape, in buffers that the caller lends.
+// The machine's memory, in buffers that the caller lends: cells found and read, regions of addresses. The crate `storing` writes them.
 //
-// All functions are internal, for the crates above. In a run only they touch the cells' buffers and write the tape; they know of no
+// All functions are internal, for the crates above. In a run only they and those of `storing` touch the cells' buffers; they know of no
 // register and no program.
 pub mod cells;
 pub mod regions;
-pub mod tape;

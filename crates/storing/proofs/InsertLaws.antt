@@ -11,12 +11,12 @@ use Rattle.rules.specs.Cells.{Cells, count, addresses, contents, markCells}
 use Rattle.rules.specs.Step.{overlay}
 use Rattle.rules.specs.Guarded.{cleanMany}
 use Rattle.rules.proofs.Laws.CellLaws.{length-addresses}
 use Rattle.hardware.specs.Buffers.{rank, missing, cellsOf, putMany, Rising, Ordered, Holding}
 use Rattle.hardware.specs.Places.{overwritten, zeros, consecutive, spliced, moved}
 use Rattle.hardware.proofs.StoreLaws.{count-putMany}
 use Rattle.hardware.proofs.SpliceLaws.{length-consecutive}
 use Rattle.hardware.proofs.BufferLaws.{rank-used, ranks-rise, new-cells, addresses-of, rises-of, splice}
-use Rattle.hardware.proofs.OverwriteLaws.{length-zeros, overwritten-none, part-length, part-back, clean-zeros}
+use Rattle.storing.proofs.OverwriteLaws.{length-zeros, overwritten-none, part-length, part-back, clean-zeros}
 
 -- Moving up, from the end on
 

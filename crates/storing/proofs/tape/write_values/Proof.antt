@@ -1,4 +1,4 @@
--- `hardware::tape::write_values` meets its contract. The loop's invariant: the first i values are written.
+-- `storing::tape::write_values` meets its contract. The loop's invariant: the first i values are written.
 use Prim.Native.Nat.{ℕ, _-_, _≤_, zero-le}
 use mathlib.Core.Path.{_≡_, refl, ap, _∙_}
 use mathlib.Core.List.{List}
@@ -6,9 +6,9 @@ use native.Mathlib.Omega.{arith}
 use lib.ListN.{length, getD, set, take, length-set}
 use lib.Seq.{take-all}
 use Rattle.rules.specs.Step.{overlay}
 use Rattle.hardware.proofs.WriteLaws.{overlay-next}
-use Rattle.hardware.proofs.tape.write_values.Statement.{statement}
-use Rattle.hardware.proofs.tape.write_values.Tie as tie
+use Rattle.storing.proofs.tape.write_values.Statement.{statement}
+use Rattle.storing.proofs.tape.write_values.Tie as tie
 
 abbrev Inv-loop : tie.InvT-loop
 Inv-loop values free₀ i₀ free i = (i ≤ length values) × (free ≡ overlay (take i values) free₀) × (length free ≡ length free₀)

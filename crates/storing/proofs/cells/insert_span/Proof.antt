@@ -1,4 +1,4 @@
--- `hardware::cells::insert_span` meets its contract: two ranks tell how many cells are new, and so how far what lies behind them moves.
+-- `storing::cells::insert_span` meets its contract: two ranks tell how many cells are new, and so how far what lies behind them moves.
 use Prim.Native.Nat.{ℕ, _+_, _-_}
 use mathlib.Core.Path.{_≡_, sym, ap, _∙_}
 use mathlib.Core.Bool.{Bool}
@@ -7,12 +7,12 @@ use native.Mathlib.Omega.{arith}
 use lib.ListN.{take}
 use lib.Seq.{length-take-le}
 use Rattle.rules.specs.Numbers.{wordEnd, choose}
 use Rattle.hardware.specs.Buffers.{rank}
 use Rattle.hardware.specs.Places.{moved}
-use Rattle.hardware.proofs.InsertLaws.{places-numbered, PlacesFor, places-for}
+use Rattle.storing.proofs.InsertLaws.{places-numbered, PlacesFor, places-for}
 use borrow.Author.Needs.{needs}
-use Rattle.hardware.proofs.cells.insert_span.Statement.{statement}
-use Rattle.hardware.proofs.cells.insert_span.Tie as tie
+use Rattle.storing.proofs.cells.insert_span.Statement.{statement}
+use Rattle.storing.proofs.cells.insert_span.Tie as tie
 
 add-rank-of : tie.Need-add-rank-of
 unfolding wordEnd

@@ -1,12 +1,12 @@
--- `hardware::cells::insert` meets its contract: number, address, and in a guarded run the mark are put in at the place.
+-- `storing::cells::insert` meets its contract: number, address, and in a guarded run the mark are put in at the place.
 use Prim.Native.Nat.{_≤_}
 use mathlib.Core.Path.{refl}
 use mathlib.Core.Bool.{true, false}
 use native.Mathlib.Omega.{arith}
 use Rattle.hardware.proofs.BufferLaws.{absent-within, inserted-holds}
 use borrow.Author.Needs.{needs}
-use Rattle.hardware.proofs.cells.insert.Statement.{statement}
-use Rattle.hardware.proofs.cells.insert.Tie as tie
+use Rattle.storing.proofs.cells.insert.Statement.{statement}
+use Rattle.storing.proofs.cells.insert.Tie as tie
 
 place-used : (c : tie.Start) → c .args .at ≤ c .args .count
 place-used c = absent-within (c .args .count) (c .args .addresses .now) (c .pre .0 .addresses) (c .args .address) (c .args .at) (c .pre .1 .1)

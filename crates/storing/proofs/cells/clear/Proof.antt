@@ -1,4 +1,4 @@
--- `hardware::cells::clear` meets its contract. The loop's invariant: the first i marks are zeros.
+-- `storing::cells::clear` meets its contract. The loop's invariant: the first i marks are zeros.
 use Prim.Native.Nat.{ℕ, _-_, _≤_, zero-le}
 use mathlib.Core.Path.{_≡_, refl, sym, ap, _∙_}
 use mathlib.Core.List.{List}
@@ -6,11 +6,11 @@ use native.Mathlib.Omega.{arith}
 use lib.ListN.{length, set, take, length-set}
 use lib.Seq.{take-all}
 use Rattle.rules.specs.Step.{overlay}
 use Rattle.hardware.specs.Places.{zeros}
 use Rattle.hardware.proofs.WriteLaws.{overlay-next}
-use Rattle.hardware.proofs.OverwriteLaws.{length-zeros, getD-zeros, overlay-all}
-use Rattle.hardware.proofs.cells.clear.Statement.{statement}
-use Rattle.hardware.proofs.cells.clear.Tie as tie
+use Rattle.storing.proofs.OverwriteLaws.{length-zeros, getD-zeros, overlay-all}
+use Rattle.storing.proofs.cells.clear.Statement.{statement}
+use Rattle.storing.proofs.cells.clear.Tie as tie
 
 abbrev Inv-loop : tie.InvT-loop
 Inv-loop marks₀ i₀ marks i = (i ≤ length marks₀) × (marks ≡ overlay (take i (zeros marks₀)) marks₀) × (length marks ≡ length marks₀)

@@ -1,13 +1,13 @@
--- `hardware::cells::overwrite` meets its contract: the parts that are lent come back as the values, and as zeros.
+-- `storing::cells::overwrite` meets its contract: the parts that are lent come back as the values, and as zeros.
 use Prim.Native.Nat.{_+_, _-_}
 use mathlib.Core.Path.{_≡_}
 use mathlib.Core.Bool.{true, false}
 use native.Mathlib.Omega.{arith}
 use lib.ListN.{length}
 use borrow.Author.Needs.{needs}
-use Rattle.hardware.proofs.OverwriteLaws.{values-back, zeros-back}
-use Rattle.hardware.proofs.cells.overwrite.Statement.{statement}
-use Rattle.hardware.proofs.cells.overwrite.Tie as tie
+use Rattle.storing.proofs.OverwriteLaws.{values-back, zeros-back}
+use Rattle.storing.proofs.cells.overwrite.Statement.{statement}
+use Rattle.storing.proofs.cells.overwrite.Tie as tie
 
 add-end : tie.Need-add-end
 add-end c = search needs

@@ -1,11 +1,11 @@
--- `hardware::cells::move_contents` meets its contract, by `move_up` of the numbers, and in a guarded run of the marks.
+-- `storing::cells::move_contents` meets its contract, by `move_up` of the numbers, and in a guarded run of the marks.
 use mathlib.Core.Path.{_≡_}
 use mathlib.Core.Bool.{true}
 use native.Mathlib.Omega.{arith}
 use lib.ListN.{length}
 use borrow.Author.Needs.{needs}
-use Rattle.hardware.proofs.cells.move_contents.Statement.{statement}
-use Rattle.hardware.proofs.cells.move_contents.Tie as tie
+use Rattle.storing.proofs.cells.move_contents.Statement.{statement}
+use Rattle.storing.proofs.cells.move_contents.Tie as tie
 
 move-up-requires : tie.Need-move-up-requires
 move-up-requires c κs = search needs

@@ -1,4 +1,4 @@
--- `hardware::cells::insert_at` meets its contract. The loop's invariant: some element is put in at i, among the first elements as they were.
+-- `storing::cells::insert_at` meets its contract. The loop's invariant: some element is put in at i, among the first elements as they were.
 use Prim.Native.Nat.{ℕ, _-_, _≤_}
 use mathlib.Core.Path.{_≡_, refl, ap, _∙_}
 use mathlib.Core.List.{List}
@@ -7,10 +7,10 @@ use native.Mathlib.Omega.{arith}
 use lib.ListN.{length, getD, set, take, length-set}
 use lib.Seq.{length-take-le}
 use Rattle.rules.specs.Step.{overlay}
 use Rattle.hardware.specs.Places.{insertAt}
 use Rattle.hardware.proofs.WriteLaws.{insert-start, insert-shift, insert-last}
-use Rattle.hardware.proofs.cells.insert_at.Statement.{statement}
-use Rattle.hardware.proofs.cells.insert_at.Tie as tie
+use Rattle.storing.proofs.cells.insert_at.Statement.{statement}
+use Rattle.storing.proofs.cells.insert_at.Tie as tie
 
 abbrev Inv-loop : tie.InvT-loop
 Inv-loop count at v buffer₀ i₀ buffer i =

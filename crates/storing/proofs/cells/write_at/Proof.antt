@@ -1,10 +1,10 @@
--- `hardware::cells::write_at` meets its contract: the number is set, and in a guarded run the mark.
+-- `storing::cells::write_at` meets its contract: the number is set, and in a guarded run the mark.
 use mathlib.Core.Path.{_≡_, refl}
 use mathlib.Core.Bool.{true}
 use native.Mathlib.Omega.{arith}
 use borrow.Author.Needs.{needs}
-use Rattle.hardware.proofs.cells.write_at.Statement.{statement}
-use Rattle.hardware.proofs.cells.write_at.Tie as tie
+use Rattle.storing.proofs.cells.write_at.Statement.{statement}
+use Rattle.storing.proofs.cells.write_at.Tie as tie
 
 mul-numbers : tie.Need-mul-numbers
 mul-numbers c = search needs

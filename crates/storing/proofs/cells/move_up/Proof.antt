@@ -1,14 +1,14 @@
--- `hardware::cells::move_up` meets its contract. The loop's invariant: the elements from i on are moved.
+-- `storing::cells::move_up` meets its contract. The loop's invariant: the elements from i on are moved.
 use Prim.Native.Nat.{ℕ, _+_, _-_, _≤_}
 use mathlib.Core.Path.{_≡_, refl, ap, _∙_}
 use mathlib.Core.List.{List}
 use native.Mathlib.Nat.{le-refl}
 use native.Mathlib.Omega.{arith}
 use lib.ListN.{length, getD, set, length-set}
 use Rattle.hardware.specs.Places.{moved}
-use Rattle.hardware.proofs.InsertLaws.{moved-none, moved-next}
-use Rattle.hardware.proofs.cells.move_up.Statement.{statement}
-use Rattle.hardware.proofs.cells.move_up.Tie as tie
+use Rattle.storing.proofs.InsertLaws.{moved-none, moved-next}
+use Rattle.storing.proofs.cells.move_up.Statement.{statement}
+use Rattle.storing.proofs.cells.move_up.Tie as tie
 
 abbrev Inv-loop : tie.InvT-loop
 Inv-loop count from n buffer₀ i₀ buffer i =

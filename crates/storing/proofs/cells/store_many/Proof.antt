@@ -1,17 +1,17 @@
--- `hardware::cells::store_many` meets its contract: where all cells are present only their contents change, else they are put in.
+-- `storing::cells::store_many` meets its contract: where all cells are present only their contents change, else they are put in.
 use mathlib.Core.Path.{refl, sym, _∙_}
 use Prim.Native.Nat.{_+_, _≤_}
 use native.Mathlib.Omega.{arith}
 use lib.ListN.{length, take}
 use lib.Seq.{length-take-le}
 use Rattle.rules.specs.Numbers.{wordEnd}
 use Rattle.hardware.specs.Buffers.{missing}
 use Rattle.hardware.proofs.BufferLaws.{span-at, span-ends}
-use Rattle.hardware.proofs.OverwriteLaws.{within-words, overwritten-holds}
-use Rattle.hardware.proofs.InsertLaws.{places-for, count-stored, places-hold}
+use Rattle.storing.proofs.OverwriteLaws.{within-words, overwritten-holds}
+use Rattle.storing.proofs.InsertLaws.{places-for, count-stored, places-hold}
 use borrow.Author.Needs.{needs}
-use Rattle.hardware.proofs.cells.store_many.Statement.{statement}
-use Rattle.hardware.proofs.cells.store_many.Tie as tie
+use Rattle.storing.proofs.cells.store_many.Statement.{statement}
+use Rattle.storing.proofs.cells.store_many.Tie as tie
 
 fits : (c : tie.Start)
     → c .args .count + missing (take (c .args .count) (c .args .addresses .now)) (c .args .start) (length (c .args .values .now))

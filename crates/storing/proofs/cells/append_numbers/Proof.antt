@@ -1,12 +1,12 @@
--- `hardware::cells::append_numbers` meets its contract: what is written behind the count follows the used part.
+-- `storing::cells::append_numbers` meets its contract: what is written behind the count follows the used part.
 use Prim.Native.Nat.{_+_, _-_, _≤_}
 use mathlib.Core.Path.{_≡_}
 use native.Mathlib.Omega.{arith}
 use lib.ListN.{length}
 use Rattle.hardware.proofs.PartLaws.{overlay-tail}
 use borrow.Author.Needs.{needs}
-use Rattle.hardware.proofs.cells.append_numbers.Statement.{statement}
-use Rattle.hardware.proofs.cells.append_numbers.Tie as tie
+use Rattle.storing.proofs.cells.append_numbers.Statement.{statement}
+use Rattle.storing.proofs.cells.append_numbers.Tie as tie
 
 add-end : tie.Need-add-end
 add-end c = search needs

@@ -1,4 +1,4 @@
--- `hardware::cells::number_cells` meets its contract. The loop's invariant: the first i addresses are written.
+-- `storing::cells::number_cells` meets its contract. The loop's invariant: the first i addresses are written.
 use Prim.Native.Nat.{ℕ, _+_, _-_, _≤_, zero-le}
 use mathlib.Core.Path.{_≡_, refl, sym, ap, _∙_}
 use mathlib.Core.List.{List}
@@ -7,12 +7,12 @@ use lib.ListN.{length, set, take, length-set}
 use lib.Seq.{take-all}
 use Rattle.rules.specs.Numbers.{wordEnd}
 use Rattle.rules.specs.Step.{overlay}
 use Rattle.hardware.specs.Places.{consecutive}
 use Rattle.hardware.proofs.WriteLaws.{overlay-next}
-use Rattle.hardware.proofs.OverwriteLaws.{overlay-all}
+use Rattle.storing.proofs.OverwriteLaws.{overlay-all}
 use Rattle.hardware.proofs.SpliceLaws.{length-consecutive, getD-consecutive}
-use Rattle.hardware.proofs.cells.number_cells.Statement.{statement}
-use Rattle.hardware.proofs.cells.number_cells.Tie as tie
+use Rattle.storing.proofs.cells.number_cells.Statement.{statement}
+use Rattle.storing.proofs.cells.number_cells.Tie as tie
 
 abbrev Inv-loop : tie.InvT-loop
 Inv-loop start addresses₀ i₀ addresses i =

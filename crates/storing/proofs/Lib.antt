@@ -1,0 +1,3 @@
+-- Laws of cells written over, and of cells put in.
+pub mod OverwriteLaws
+pub mod InsertLaws
