@@ -1,4 +1,4 @@
--- A call by mode from its parts: the load, the entry's tests, the run.
+-- A call by mode that is refused: its program, or what is handed in.
 use Prim.Native.Nat.{ℕ}
 use mathlib.Core.Path.{_≡_, refl, sym, ap, _∙_}
 use mathlib.Core.Bool.{Bool, true, false}
@@ -13,28 +13,10 @@ use Rattle.rules.specs.declared.Refusal.the-variants.{BadState}
 use Rattle.rules.specs.Results.{Result, refuse, pass}
 use Rattle.rules.specs.Text.{Job}
 use Rattle.rules.specs.Answers.{meaning}
-use Rattle.rules.specs.Entry.{GuardedSnapshot, plainEntry, marksEntry, guardedEntry, all}
+use Rattle.rules.specs.Entry.{GuardedSnapshot}
 use Rattle.rules.specs.Calls.{Called, refusedCall, plainCall, guardedCall, jobBudget, jobProgram}
 use Rattle.rules.specs.Handed.{guardedSnapshot, guardedCalled}
-use Rattle.rules.proofs.Laws.BoolLaws.{and-with-true}
-use Rattle.calling.specs.ModeCalls.{modeEntry, modeCall}
-
--- The entry's tests
-
--- `fits` is the test of the state alone
-module _ (g : GuardedSnapshot) (fits : Bool) (e : fits ≡ plainEntry (g .plain)) where
-  pub plainly-unfit : (guarded : Bool) → fits ≡ false → false ≡ modeEntry guarded g
-  unfolding modeEntry guardedEntry all
-  plainly-unfit true h = rw (sym e, h)
-  plainly-unfit false h = sym h ∙ e
-
-  pub plainly-fit : (guarded : Bool) → guarded ≡ false → fits ≡ true → true ≡ modeEntry guarded g
-  unfolding modeEntry
-  plainly-fit guarded f h = rw f (sym h ∙ e)
-
-  pub fit-by-marks : (guarded marked : Bool) → guarded ≡ true → fits ≡ true → marked ≡ marksEntry g → marked ≡ modeEntry guarded g
-  unfolding modeEntry guardedEntry all
-  fit-by-marks guarded marked t h m = rw (t, sym e, h) (m ∙ sym (and-with-true (marksEntry g)))
+use Rattle.checking.specs.ModeCalls.{modeEntry, modeCall}
 
 -- A call refused at entry
 

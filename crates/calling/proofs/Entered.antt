@@ -18,7 +18,7 @@ use Rattle.rules.proofs.Laws.BoolLaws.{false-true, and-right}
 use Rattle.rules.proofs.Laws.EntryLaws.{all-at}
 use Rattle.interpreter.specs.Runs.{atClock, PassedEntry, Runs}
 use Rattle.interpreter.proofs.BothRuns.{runs-guarded, runs-plain}
-use Rattle.calling.specs.ModeCalls.{modeEntry, modeCall, callBeside}
+use Rattle.checking.specs.ModeCalls.{modeEntry, modeCall, callBeside}
 
 -- What passed the tests
 

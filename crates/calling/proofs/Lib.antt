@@ -1,4 +1,3 @@
 -- Laws of the calls by mode.
 pub mod Answered
-pub mod Checking
 pub mod Entered

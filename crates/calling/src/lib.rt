@@ -2,5 +2,4 @@
 // of crate `executor` are thin functions over it.
 //
 // Internal: each function takes any arguments, but a plain call is handed no marks.
-pub mod checks;
 pub mod runs;

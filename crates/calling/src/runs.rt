@@ -1,5 +1,4 @@
 // Calls that run a program.
-use crate::checks;
 use effects::Mode;
 use program::binary_program;
 use program::binary_program::Checked;
@@ -22,7 +21,7 @@ ghost use Rattle.rules.specs.Calls.{jobBudget, jobProgram};
 ghost use Rattle.rules.specs.Handed.{guardedCalled};
 ghost use Rattle.program.specs.Table.{programOf, wordSlot, EmptyRows};
 ghost use Rattle.interpreter.specs.Runs.{Loaded, handed};
-ghost use Rattle.calling.specs.ModeCalls.{modeCall, PlainHasNoMarks};
+ghost use Rattle.checking.specs.ModeCalls.{modeCall, PlainHasNoMarks};
 
 // A call refused at entry.
 fn refuse(mode: Mode, machine: Machine, refusal: Refusal) -> Ran
@@ -61,7 +60,7 @@ fn enter(
         (handed mode machine (now (addresses .entry)) (now (numbers .entry)) (now (marks .entry))
         (now (tape .entry)) (now (output .entry))) ⌝ }
 {
-    if checks::accepts(mode, machine, addresses, numbers, marks, tape, output) {
+    if checking::accepts(mode, machine, addresses, numbers, marks, tape, output) {
         let extras = mode.extras;
         if mode.guarded {
             let guarded = Mode {

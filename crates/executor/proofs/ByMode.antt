@@ -14,7 +14,7 @@ use Rattle.rules.specs.Calls.{Called, plainCall, guardedCall}
 use Rattle.rules.specs.Handed.{called, guardedCalled, noMarks}
 use Rattle.rules.specs.NonInterference.{withoutMarks}
 use Rattle.effects.specs.declared.Mode.{Mode}
-use Rattle.calling.specs.ModeCalls.{modeCall, PlainHasNoMarks}
+use Rattle.checking.specs.ModeCalls.{modeCall, PlainHasNoMarks}
 
 -- f is what is handed in, by the extras
 module _ {mode : Mode} (program : Result (List Instruction)) (budget : ℕ) (f : Marks → GuardedSnapshot) where

@@ -169,7 +169,7 @@ pub fn check_words(
         (now (tape .entry)) (now (output .entry)))
         .answer ⌝ }
 {
-    calling::checks::check_words(
+    checking::check_words(
         mode(extras),
         words,
         machine,
@@ -198,7 +198,7 @@ pub fn check_text(
         (now (tape .entry)) (now (output .entry)))
         .answer ⌝ }
 {
-    calling::checks::check_text(
+    checking::check_text(
         mode(extras),
         text,
         machine,
@@ -227,7 +227,7 @@ pub fn check_budget_text(
         (now (tape .entry)) (now (output .entry)))
         .answer ⌝ }
 {
-    calling::checks::check_budget_text(
+    checking::check_budget_text(
         mode(extras),
         text,
         machine,

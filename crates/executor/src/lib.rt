@@ -1,5 +1,5 @@
-// The public calls: the plain ones in `plain`, the guarded ones in `guarded`, both thin functions over the core of crate `calling`; and
-// `solve`, from its input to the lines that it prints.
+// The public calls: the plain ones in `plain`, the guarded ones in `guarded`, both thin functions over the core in crates
+// `calling` and `checking`; and `solve`, from its input to the lines that it prints.
 pub mod guarded;
 pub mod plain;
 

@@ -140,7 +140,7 @@ pub fn check_words(
         .answer ⌝ }
 {
     let none = [0u64; 1];
-    calling::checks::check_words(
+    checking::check_words(
         mode(),
         words,
         machine,
@@ -167,7 +167,7 @@ pub fn check_text(
         .answer ⌝ }
 {
     let none = [0u64; 1];
-    calling::checks::check_text(
+    checking::check_text(
         mode(),
         text,
         machine,
@@ -194,7 +194,7 @@ pub fn check_budget_text(
         .answer ⌝ }
 {
     let none = [0u64; 1];
-    calling::checks::check_budget_text(
+    checking::check_budget_text(
         mode(),
         text,
         machine,

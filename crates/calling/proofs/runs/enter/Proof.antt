@@ -4,7 +4,7 @@ use mathlib.Core.Bool.{true, false}
 use denote.Ref.{now}
 use Rattle.rules.specs.Entry.{GuardedSnapshot}
 use Rattle.interpreter.specs.Runs.{handed}
-use Rattle.calling.specs.ModeCalls.{modeEntry}
+use Rattle.checking.specs.ModeCalls.{modeEntry}
 use Rattle.calling.proofs.Answered.{refused-is, unfit}
 use Rattle.calling.proofs.Entered.{passed, entered-guarded, entered-plain}
 use borrow.Author.Needs.{needs}

@@ -1,4 +1,7 @@
-// The entry's tests alone: what a call is refused with at entry, else e3, as a run with budget 0 answers. What is lent is only read.
+// The entry's tests alone: what a call is refused with at entry, else e3, as a run with budget 0 answers. What is lent is only read. The public checks
+// of crate `executor` are thin functions over these.
+//
+// Internal: each function takes any arguments.
 use effects::Mode;
 use program::binary_program::Checked;
 use program::table;
@@ -15,10 +18,10 @@ ghost use Rattle.rules.specs.Answers.{meaning};
 ghost use Rattle.rules.specs.Calls.{jobProgram};
 ghost use Rattle.program.specs.WordLoads.{checkedOf, checkMeaning};
 ghost use Rattle.interpreter.specs.Runs.{handed};
-ghost use Rattle.calling.specs.ModeCalls.{modeEntry, modeCall};
+ghost use Rattle.checking.specs.ModeCalls.{modeEntry, modeCall};
 
 // Is what is handed in fit? Marks are looked at in a guarded call only.
-pub(crate) fn accepts(
+pub fn accepts(
     mode: Mode,
     machine: Machine,
     addresses: &[u64],

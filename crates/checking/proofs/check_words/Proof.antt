@@ -1,7 +1,7 @@
--- `calling::checks::check_words` meets its contract: the words are checked, and the answer at entry is theirs.
+-- `checking::check_words` meets its contract: the words are checked, and the answer at entry is theirs.
 use borrow.Author.Needs.{needs}
-use Rattle.calling.proofs.checks.check_words.Statement.{statement}
-use Rattle.calling.proofs.checks.check_words.Tie as tie
+use Rattle.checking.proofs.check_words.Statement.{statement}
+use Rattle.checking.proofs.check_words.Tie as tie
 
 check-words-requires : tie.Need-check-words-requires
 check-words-requires c κs = search needs

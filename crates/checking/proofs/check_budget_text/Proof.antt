@@ -1,7 +1,7 @@
--- `calling::checks::check_budget_text` meets its contract: the text is checked, and the answer at entry is its own.
+-- `checking::check_budget_text` meets its contract: the text is checked, and the answer at entry is its own.
 use borrow.Author.Needs.{needs}
-use Rattle.calling.proofs.checks.check_budget_text.Statement.{statement}
-use Rattle.calling.proofs.checks.check_budget_text.Tie as tie
+use Rattle.checking.proofs.check_budget_text.Statement.{statement}
+use Rattle.checking.proofs.check_budget_text.Tie as tie
 
 check-budget-text-requires : tie.Need-check-budget-text-requires
 check-budget-text-requires c κs = search needs

@@ -1,12 +1,12 @@
--- `calling::checks::accepts` meets its contract: the entry's tests are those of the state and, in a guarded call, of the marks.
+-- `checking::accepts` meets its contract: the entry's tests are those of the state and, in a guarded call, of the marks.
 use borrow.Author.Tests.{not-true, not-false}
 use borrow.Author.Needs.{needs}
 use denote.Ref.{now}
 use Rattle.rules.specs.Entry.{GuardedSnapshot}
 use Rattle.interpreter.specs.Runs.{handed}
-use Rattle.calling.proofs.Answered.{plainly-unfit, fit-by-marks, plainly-fit}
-use Rattle.calling.proofs.checks.accepts.Statement.{statement}
-use Rattle.calling.proofs.checks.accepts.Tie as tie
+use Rattle.checking.proofs.Checking.{plainly-unfit, fit-by-marks, plainly-fit}
+use Rattle.checking.proofs.accepts.Statement.{statement}
+use Rattle.checking.proofs.accepts.Tie as tie
 
 abbrev given : tie.Start → GuardedSnapshot
 given c = let a = c .args in handed (a .mode) (a .machine) (now (a .addresses)) (now (a .numbers)) (now (a .marks)) (now (a .tape)) (now (a .output))

@@ -1,10 +1,10 @@
--- `calling::checks::entry_answer` meets its contract: the program's refusal, refusal 3, or e3.
+-- `checking::entry_answer` meets its contract: the program's refusal, refusal 3, or e3.
 use mathlib.Core.Path.{refl, sym, _∙_}
 use Rattle.rules.specs.Answers.{meaning}
-use Rattle.calling.proofs.Checking.{answered}
+use Rattle.checking.proofs.Checking.{answered}
 use borrow.Author.Needs.{needs}
-use Rattle.calling.proofs.checks.entry_answer.Statement.{statement}
-use Rattle.calling.proofs.checks.entry_answer.Tie as tie
+use Rattle.checking.proofs.entry_answer.Statement.{statement}
+use Rattle.checking.proofs.entry_answer.Tie as tie
 
 enum-told : tie.Need-enum-told
 enum-told c = search needs

@@ -10,11 +10,31 @@ use Rattle.rules.specs.Results.{Result, refuse, pass}
 use Rattle.rules.specs.Step.{run}
 use Rattle.rules.specs.Guarded.{guardedRun}
 use Rattle.rules.specs.Answers.{Meaning, meaning}
-use Rattle.rules.specs.Entry.{GuardedSnapshot}
+use Rattle.rules.specs.Entry.{GuardedSnapshot, plainEntry, marksEntry, guardedEntry, all}
 use Rattle.rules.specs.Calls.{plainCall, guardedCall}
+use Rattle.rules.proofs.Laws.BoolLaws.{and-with-true}
 use Rattle.program.specs.declared.binary_program.Checked.{Checked}
 use Rattle.program.specs.WordLoads.{checkedOf, CheckMeaning, accepted, refusedWith, checkMeaning}
-use Rattle.calling.specs.ModeCalls.{modeEntry, modeCall}
+use Rattle.checking.specs.ModeCalls.{modeEntry, modeCall}
+
+-- The entry's tests
+
+-- `fits` is the test of the state alone
+module _ (g : GuardedSnapshot) (fits : Bool) (e : fits ≡ plainEntry (g .plain)) where
+  pub plainly-unfit : (guarded : Bool) → fits ≡ false → false ≡ modeEntry guarded g
+  unfolding modeEntry guardedEntry all
+  plainly-unfit true h = rw (sym e, h)
+  plainly-unfit false h = sym h ∙ e
+
+  pub plainly-fit : (guarded : Bool) → guarded ≡ false → fits ≡ true → true ≡ modeEntry guarded g
+  unfolding modeEntry
+  plainly-fit guarded f h = rw f (sym h ∙ e)
+
+  pub fit-by-marks : (guarded marked : Bool) → guarded ≡ true → fits ≡ true → marked ≡ marksEntry g → marked ≡ modeEntry guarded g
+  unfolding modeEntry guardedEntry all
+  fit-by-marks guarded marked t h m = rw (t, sym e, h) (m ∙ sym (and-with-true (marksEntry g)))
+
+-- The answer
 
 -- by what the check says, and whether the state is fit
 abbrev answerOf : CheckMeaning → Bool → Meaning

@@ -1,2 +1,0 @@
--- What the contracts of `calling` cite beside the rules.
-pub mod ModeCalls

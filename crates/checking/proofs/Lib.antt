@@ -1,0 +1,2 @@
+-- Laws of the entry's tests and of what they answer.
+pub mod Checking

@@ -1,0 +1,2 @@
+-- What the contracts of `checking` cite beside the rules.
+pub mod ModeCalls
