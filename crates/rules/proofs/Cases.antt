@@ -1,3 +1,4 @@
 -- The tables of cases hold.
 pub mod Unfolding
+pub mod LongTexts
 pub mod AllCases

@@ -9,6 +9,7 @@ use Rattle.rules.specs.EntryRefusals.{wordRefusals, WordRefusalsHold, Te
 use Rattle.rules.specs.StepRefusals.{operandRefusals, OperandRefusalsHold, memoryRefusals, MemoryRefusalsHold, outcomes, OutcomesHold}
 use Rattle.rules.specs.StepCases.{results, lengths, ResultsHold, markResults, lastMarks, MarkResultsHold, listingWithoutEnd, PrintsHold}
 use Rattle.rules.proofs.Cases.Unfolding.{calling, printing}
+use Rattle.rules.proofs.Cases.LongTexts.{malformed-and-512, malformed-and-511, malformed-510-malformed, budget-and-512, budget-and-513}
 
 -- Document 01's cases: Cases.antt
 
@@ -38,7 +39,7 @@ framesHold = refl
 
 pub entryOrderHolds : EntryOrderHolds
 unfolding calling endLines zeroLines entryOrder
-entryOrderHolds = (refl, refl, refl, refl, refl, refl, refl, refl)
+entryOrderHolds = (refl, refl, refl, malformed-and-512, malformed-and-511, refl, refl, refl)
 
 pub operandOrderHolds : OperandOrderHolds
 unfolding calling operandOrder
@@ -89,7 +90,7 @@ wordRefusalsHold = (refl, refl, refl, refl)
 pub textRefusalsHold : TextRefusalsHold
 unfolding calling endLines
 textRefusalsHold =
-    (refl, refl, refl, refl, refl, refl, refl, refl, refl, refl, refl, refl, refl, refl, refl, refl, refl, refl, refl, refl, refl, refl, refl, refl, refl)
+    (refl, refl, refl, refl, refl, refl, refl, refl, refl, refl, refl, refl, refl, refl, malformed-510-malformed, refl, refl, refl, refl, refl, refl, refl, refl, budget-and-512, budget-and-513)
 
 pub stateRefusalsHold : StateRefusalsHold
 unfolding calling stateRefusals markRefusals
