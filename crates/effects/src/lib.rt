@@ -1,5 +1,5 @@
 // What a step does, as an effect or a refusal: the effects of the opcodes, each from its operands as they were read. Nothing is written
-// here: registers, cells and tape are only read, the crate `decision` decides a whole step, and `interpreter` carries effects out.
+// here: registers, cells and tape are only read, the crate `decision` decides a whole step, and `carrying` carries effects out.
 //
 // All functions are internal, for the crates above.
 pub mod arithmetic;
