@@ -19,9 +19,9 @@ use Rattle.rules.specs.Frames.{loadWords}
 use Rattle.rules.specs.Text.{loadText, loadBudgetText}
 use Rattle.rules.specs.Answers.{Meaning, refusalMeaning, meaning}
 use Rattle.rules.specs.Entry.{Snapshot, GuardedSnapshot, guardedEntry}
-use Rattle.rules.specs.Calls.{Called, refusedCall, guardedRunOf, guardedAnswered, plainCall, guardedCall, jobBudget, jobProgram, plainWords, plainText, guardedWords, guardedText, guardedBudgetText}
+use Rattle.rules.specs.Calls.{Called, pausedAfter, refusedCall, guardedRunOf, guardedAnswered, plainCall, guardedCall, jobBudget, jobProgram, plainWords, plainText, guardedWords, guardedText, guardedBudgetText}
 use Rattle.rules.specs.Handed.{guardedSnapshot}
-use Rattle.rules.specs.NonInterference.{Alike, MarkedBelow, MeetsSink, SinkAfter, withoutMarks, pausedAfter, NonInterference}
+use Rattle.rules.specs.NonInterference.{Alike, MarkedBelow, MeetsSink, SinkAfter, withoutMarks, NonInterference}
 use Rattle.records.specs.Records.{machineOf, machineRecord, marksRecord, calleeOf, answerRecord}
 use Rattle.records.proofs.RecordLaws.{records-kept}
 use Rattle.records.proofs.ReadingBack.{steps-read, records-read}
