@@ -43,8 +43,8 @@ pub mod CaseRows
 pub mod Cases
 pub mod StepCases
 pub mod EntryRefusals
-pub mod TextLimit
 pub mod StepRefusals
 pub mod RefusalOrder
 pub mod StoreOrder
 pub mod SinkOrder
+pub mod TextLimit
