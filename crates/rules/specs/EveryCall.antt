@@ -79,13 +79,17 @@ pub data GuardedStepLast : Result (List Instruction) → GuardedSnapshot → Mea
       → GuardedStepLast (pass program) g a (guardedSnapshotAfter g (record { plain = n .next .state; marks = n .marks }))
 
 -- what no call changes: PSP, the storage address, and the lengths of the buffers
-pub record Kept (s t : Snapshot) : Type 0 where
+pub record PlainKept (s t : Snapshot) : Type 0 where
   pub psp : t .machine .psp ≡ s .machine .psp
   pub storage : t .machine .«storage_addr» ≡ s .machine .«storage_addr»
   pub addresses : length (t .addresses) ≡ length (s .addresses)
   pub numbers : length (t .numbers) ≡ length (s .numbers)
   pub tape : length (t .tape) ≡ length (s .tape)
   pub output : length (t .output) ≡ length (s .output)
+
+pub record GuardedKept (g h : GuardedSnapshot) : Type 0 where
+  pub plain : PlainKept (g .plain) (h .plain)
+  pub marks : length (h .marks) ≡ length (g .marks)
 
 -- A call with a budget, handed s, beside the calls of the same program and s with any budget
 
@@ -97,10 +101,11 @@ pub record OneStepMore {S : Type 0} (StepIsLast : S → Meaning → S → Type 0
   pub pausedBefore : withBudget k ≡ pausedAfter k before
   pub lastStep : StepIsLast before (c .answer) (c .left)
 
--- `plain` is the plain part of what is handed in, and `highest` the highest refusal
+-- `plain` is the plain part of what is handed in, and `highest` the highest refusal. Which calls are refused at entry is in MapCalls.antt.
 pub record Promised
     {S : Type 0}
     (plain : S → Snapshot)
+    (Kept : S → S → Type 0)
     (highest : ℕ)
     (StepIsRefused : S → Meaning → Type 0)
     (StepIsLast : S → Meaning → S → Type 0)
@@ -114,7 +119,7 @@ pub record Promised
   pub steps : c .steps ≤ budget
   -- clk counts the steps, refused calls included
   pub clock : plain (c .left) .machine .clk ≡ plain s .machine .clk + c .steps
-  pub kept : Kept (plain s) (plain (c .left))
+  pub kept : Kept s (c .left)
   -- e3 exactly where the steps are the budget and nothing else answers: neither was the call refused at entry, nor did its last step end
   -- it, by END, SCCALL or 17
   pub pausedExactly : (c .answer ≡ outcome 3 [])
@@ -126,7 +131,8 @@ pub record Promised
   -- 4 to 16 and 18, after k steps: everything is as the call with budget k leaves it, which paused, and the step from there is refused
   pub refusedAtStep : when (c .answer) ≡ insteadOfStep
       → (c .steps < budget) × (withBudget (c .steps) ≡ pausedAfter (c .steps) (c .left)) × StepIsRefused (c .left) (c .answer)
-  -- e0, e1, e2 and 17 come with a step, and so does e3 unless no step is done: an accepted one, from what the call with one less left
+  -- e0, e1, e2 and 17 come with a step, and so does e3 unless no step is done: an accepted one, from what the call
+  -- with a budget of one step less left
   pub endedByStep : when (c .answer) ≡ withStep → OneStepMore StepIsLast withBudget c
   pub pausedByStep : c .answer ≡ outcome 3 [] → (c .steps ≡ 0 → ⊥) → OneStepMore StepIsLast withBudget c
   -- an answer other than e3 stays with every larger budget
@@ -134,13 +140,14 @@ pub record Promised
 
 -- a plain call never gives 18
 abbrev pub PlainPromised : Result (List Instruction) → ℕ → Snapshot → Called Snapshot → Type 0
-PlainPromised program budget s c = Promised (λ s. s) 17 (PlainStepRefused program) (PlainStepLast program) (λ k. plainCall program k s) budget s c
+PlainPromised program budget s c = Promised (λ s. s) PlainKept 17 (PlainStepRefused program) (PlainStepLast program) (λ k. plainCall program k s) budget s c
 
 abbrev pub GuardedPromised : Result (List Instruction) → ℕ → GuardedSnapshot → Called GuardedSnapshot → Type 0
 GuardedPromised program budget g c =
-    Promised (λ g. g .plain) 18 (GuardedStepRefused program) (GuardedStepLast program) (λ k. guardedCall program k g) budget g c
+    Promised (λ g. g .plain) GuardedKept 18 (GuardedStepRefused program) (GuardedStepLast program) (λ k. guardedCall program k g) budget g c
 
--- The theorem, for each public call: a step has budget 1, a check 0. A machine has ten registers by its type.
+-- The theorem, for each public call: a step has budget 1, a check 0. The program of a text with a budget line is called with the line's
+-- budget, and with any, beside it. A machine has ten registers by its type.
 pub record EveryCall : Type 0 where
   pub ofWords : (words : List ℕ) (budget : ℕ) (s : Snapshot) → length (s .machine .registers) ≡ 10
       → PlainPromised (loadWords words) budget s (plainWords words budget s)
@@ -148,13 +155,13 @@ pub record EveryCall : Type 0 where
       → PlainPromised (loadText text) budget s (plainText text budget s)
   pub ofBudgetText : (text : List ℕ) (s : Snapshot) → length (s .machine .registers) ≡ 10
       → PlainPromised (jobProgram (loadBudgetText text)) (jobBudget (loadBudgetText text)) s (plainBudgetText text s)
-  pub ofBudgetTextCheck : (text : List ℕ) (s : Snapshot) → length (s .machine .registers) ≡ 10
-      → PlainPromised (jobProgram (loadBudgetText text)) 0 s (plainCall (jobProgram (loadBudgetText text)) 0 s)
+  pub ofBudgetTextProgram : (text : List ℕ) (budget : ℕ) (s : Snapshot) → length (s .machine .registers) ≡ 10
+      → PlainPromised (jobProgram (loadBudgetText text)) budget s (plainCall (jobProgram (loadBudgetText text)) budget s)
   pub ofGuardedWords : (words : List ℕ) (budget : ℕ) (g : GuardedSnapshot) → length (g .plain .machine .registers) ≡ 10
       → GuardedPromised (loadWords words) budget g (guardedWords words budget g)
   pub ofGuardedText : (text : List ℕ) (budget : ℕ) (g : GuardedSnapshot) → length (g .plain .machine .registers) ≡ 10
       → GuardedPromised (loadText text) budget g (guardedText text budget g)
   pub ofGuardedBudgetText : (text : List ℕ) (g : GuardedSnapshot) → length (g .plain .machine .registers) ≡ 10
       → GuardedPromised (jobProgram (loadBudgetText text)) (jobBudget (loadBudgetText text)) g (guardedBudgetText text g)
-  pub ofGuardedBudgetTextCheck : (text : List ℕ) (g : GuardedSnapshot) → length (g .plain .machine .registers) ≡ 10
-      → GuardedPromised (jobProgram (loadBudgetText text)) 0 g (guardedCall (jobProgram (loadBudgetText text)) 0 g)
+  pub ofGuardedBudgetTextProgram : (text : List ℕ) (budget : ℕ) (g : GuardedSnapshot) → length (g .plain .machine .registers) ≡ 10
+      → GuardedPromised (jobProgram (loadBudgetText text)) budget g (guardedCall (jobProgram (loadBudgetText text)) budget g)

@@ -28,8 +28,8 @@ mapRun program budget s = run numberMap (environment program s) budget (mapState
 abbrev pub guardedMapRun : List Instruction → ℕ → GuardedSnapshot → RunEnd (GuardedState numberMap markMap)
 guardedMapRun program budget g = guardedRun numberMap markMap (environment program (g .plain)) budget (mapGuardedState (guardedStateOf g))
 
--- What a call gives. Of one that runs: the map's answer and steps, and the snapshot of the one state that agrees with the map's and whose
--- cells rise. In a guarded call the marks are those of the same addresses.
+-- What a call gives. Of one that runs: the map's answer and steps, and the snapshot of a state that agrees with the map's, its cells in
+-- rising order. In a guarded call the marks are those of the same addresses.
 
 pub data OnMap : Result (List Instruction) → ℕ → Snapshot → Called Snapshot → Type 0 where
   refused-program : {f : Refusal} {budget : ℕ} {s : Snapshot} → OnMap (refuse f) budget s (refusedCall f s)
@@ -53,7 +53,8 @@ pub data GuardedOnMap : Result (List Instruction) → ℕ → GuardedSnapshot �
         left = guardedSnapshotAfter g q;
       })
 
--- The theorem, for each public call: a step has budget 1, a check 0. A machine has ten registers by its type.
+-- The theorem, for each public call: a step has budget 1, a check 0. The program of a text with a budget line is called with the line's
+-- budget, and with any, beside it. A machine has ten registers by its type.
 pub record MapCalls : Type 0 where
   pub ofWords : (words : List ℕ) (budget : ℕ) (s : Snapshot) → length (s .machine .registers) ≡ 10
       → OnMap (loadWords words) budget s (plainWords words budget s)
@@ -61,13 +62,13 @@ pub record MapCalls : Type 0 where
       → OnMap (loadText text) budget s (plainText text budget s)
   pub ofBudgetText : (text : List ℕ) (s : Snapshot) → length (s .machine .registers) ≡ 10
       → OnMap (jobProgram (loadBudgetText text)) (jobBudget (loadBudgetText text)) s (plainBudgetText text s)
-  pub ofBudgetTextCheck : (text : List ℕ) (s : Snapshot) → length (s .machine .registers) ≡ 10
-      → OnMap (jobProgram (loadBudgetText text)) 0 s (plainCall (jobProgram (loadBudgetText text)) 0 s)
+  pub ofBudgetTextProgram : (text : List ℕ) (budget : ℕ) (s : Snapshot) → length (s .machine .registers) ≡ 10
+      → OnMap (jobProgram (loadBudgetText text)) budget s (plainCall (jobProgram (loadBudgetText text)) budget s)
   pub ofGuardedWords : (words : List ℕ) (budget : ℕ) (g : GuardedSnapshot) → length (g .plain .machine .registers) ≡ 10
       → GuardedOnMap (loadWords words) budget g (guardedWords words budget g)
   pub ofGuardedText : (text : List ℕ) (budget : ℕ) (g : GuardedSnapshot) → length (g .plain .machine .registers) ≡ 10
       → GuardedOnMap (loadText text) budget g (guardedText text budget g)
   pub ofGuardedBudgetText : (text : List ℕ) (g : GuardedSnapshot) → length (g .plain .machine .registers) ≡ 10
       → GuardedOnMap (jobProgram (loadBudgetText text)) (jobBudget (loadBudgetText text)) g (guardedBudgetText text g)
-  pub ofGuardedBudgetTextCheck : (text : List ℕ) (g : GuardedSnapshot) → length (g .plain .machine .registers) ≡ 10
-      → GuardedOnMap (jobProgram (loadBudgetText text)) 0 g (guardedCall (jobProgram (loadBudgetText text)) 0 g)
+  pub ofGuardedBudgetTextProgram : (text : List ℕ) (budget : ℕ) (g : GuardedSnapshot) → length (g .plain .machine .registers) ≡ 10
+      → GuardedOnMap (jobProgram (loadBudgetText text)) budget g (guardedCall (jobProgram (loadBudgetText text)) budget g)

@@ -16,7 +16,7 @@ use Rattle.rules.specs.Text.{Line, Job, linesOf, frameOfLine, loadText, 
 use Rattle.rules.specs.Answers.{Meaning, refusalMeaning}
 use Rattle.rules.specs.Entry.{Snapshot, GuardedSnapshot, plainEntry, guardedEntry}
 use Rattle.rules.specs.Calls.{Called, refusedCall, plainAnswered, plainRunOf, guardedAnswered, guardedRunOf, jobBudget, jobProgram, plainCall, plainWords, plainText, plainBudgetText, guardedCall, guardedWords, guardedText, guardedBudgetText}
-use Rattle.rules.specs.EveryCall.{atEntry, when, Promised, PlainPromised, GuardedPromised, EveryCall}
+use Rattle.rules.specs.EveryCall.{atEntry, when, PlainKept, GuardedKept, Promised, PlainPromised, GuardedPromised, EveryCall}
 use Rattle.rules.proofs.EveryCall.Refusing.{Refusing, refusing-refused, passed, refusing-require}
 use Rattle.rules.proofs.EveryCall.AnswerTimes.{refusal-answers}
 use Rattle.rules.proofs.EveryCall.Promises.{entry-refused, promised}
@@ -56,14 +56,19 @@ budget-text-refused text = program-refused (refusing-require _ _ refl (job-refus
 -- Of any program that is refused so, or passes
 
 -- a call that is refused at entry, whatever its budget
-module _ {S : Type 0} (plain : S → Snapshot) (highest : ℕ) (l : 17 ≤ highest) (StepIsRefused : S → Meaning → Type 0) (StepIsLast : S → Meaning → S → Type 0) where
+module _ {S : Type 0} (plain : S → Snapshot) (Kept : S → S → Type 0) (kept : (s : S) → Kept s s) (highest : ℕ) (l : 17 ≤ highest) (StepIsRefused : S → Meaning → Type 0) (StepIsLast : S → Meaning → S → Type 0) where
   entry-promised : (withBudget : ℕ → Called S) (budget : ℕ) (s : S) (f : Refusal) → AtEntry f → ((n : ℕ) → withBudget n ≡ refusedCall f s)
-      → Promised plain highest StepIsRefused StepIsLast withBudget budget s (refusedCall f s)
+      → Promised plain Kept highest StepIsRefused StepIsLast withBudget budget s (refusedCall f s)
   entry-promised withBudget budget s f a h =
-      promised _ _ _ _ _ _ plain (sym (h budget)) (omega arith)
-      (record { psp = refl; storage = refl; addresses = refl; numbers = refl; tape = refl; output = refl })
+      promised _ _ _ _ _ _ plain Kept (sym (h budget)) (omega arith) (kept s)
       (λ more _. h (budget + more))
       (entry-refused (refusal-answers highest l f) a)
+
+plain-kept : (s : Snapshot) → PlainKept s s
+plain-kept s = record { psp = refl; storage = refl; addresses = refl; numbers = refl; tape = refl; output = refl }
+
+guarded-kept : (g : GuardedSnapshot) → GuardedKept g g
+guarded-kept g = record { plain = plain-kept (g .plain); marks = refl }
 
 plain-unfit : (program : List Instruction) (s : Snapshot) → plainEntry s ≡ false → (n : ℕ) → plainCall (pass program) n s ≡ refusedCall BadState s
 unfolding plainCall
@@ -76,26 +81,26 @@ guarded-unfit program g e n = ap (λ b. choose b (guardedAnswered g (guardedRunO
 plain-promised : (program : Result (List Instruction)) → Refusing AtEntry program → (budget : ℕ) (s : Snapshot) → length (s .machine .registers) ≡ 10
     → PlainPromised program budget s (plainCall program budget s)
 unfolding plainCall refusalMeaning
-plain-promised (refuse f) (refusing-refused a) budget s ten = entry-promised _ _ (omega arith) _ _ _ budget s f a (λ n. refl)
+plain-promised (refuse f) (refusing-refused a) budget s ten = entry-promised _ _ plain-kept _ (omega arith) _ _ _ budget s f a (λ n. refl)
 plain-promised (pass program) passed budget s ten = go (plainEntry s) refl
   where
     go : (b : Bool) → plainEntry s ≡ b → PlainPromised (pass program) budget s (plainCall (pass program) budget s)
     go true e = plain-entered program s ten e budget
     go false e =
         subst (PlainPromised (pass program) budget s) (sym (plain-unfit program s e budget))
-        (entry-promised _ _ (omega arith) _ _ _ budget s BadState refl (plain-unfit program s e))
+        (entry-promised _ _ plain-kept _ (omega arith) _ _ _ budget s BadState refl (plain-unfit program s e))
 
 guarded-promised : (program : Result (List Instruction)) → Refusing AtEntry program → (budget : ℕ) (g : GuardedSnapshot)
     → length (g .plain .machine .registers) ≡ 10 → GuardedPromised program budget g (guardedCall program budget g)
 unfolding guardedCall refusalMeaning
-guarded-promised (refuse f) (refusing-refused a) budget g ten = entry-promised _ _ (omega arith) _ _ _ budget g f a (λ n. refl)
+guarded-promised (refuse f) (refusing-refused a) budget g ten = entry-promised _ _ guarded-kept _ (omega arith) _ _ _ budget g f a (λ n. refl)
 guarded-promised (pass program) passed budget g ten = go (guardedEntry g) refl
   where
     go : (b : Bool) → guardedEntry g ≡ b → GuardedPromised (pass program) budget g (guardedCall (pass program) budget g)
     go true e = guarded-entered program g ten e budget
     go false e =
         subst (GuardedPromised (pass program) budget g) (sym (guarded-unfit program g e budget))
-        (entry-promised _ _ (omega arith) _ _ _ budget g BadState refl (guarded-unfit program g e))
+        (entry-promised _ _ guarded-kept _ (omega arith) _ _ _ budget g BadState refl (guarded-unfit program g e))
 
 pub every-call : EveryCall
 unfolding plainWords plainText plainBudgetText guardedWords guardedText guardedBudgetText
@@ -104,9 +109,9 @@ every-call =
       ofWords = λ words. plain-promised (loadWords words) (words-refused words);
       ofText = λ text. plain-promised (loadText text) (text-refused text);
       ofBudgetText = λ text. plain-promised (jobProgram (loadBudgetText text)) (budget-text-refused text) (jobBudget (loadBudgetText text));
-      ofBudgetTextCheck = λ text. plain-promised (jobProgram (loadBudgetText text)) (budget-text-refused text) 0;
+      ofBudgetTextProgram = λ text. plain-promised (jobProgram (loadBudgetText text)) (budget-text-refused text);
       ofGuardedWords = λ words. guarded-promised (loadWords words) (words-refused words);
       ofGuardedText = λ text. guarded-promised (loadText text) (text-refused text);
       ofGuardedBudgetText = λ text. guarded-promised (jobProgram (loadBudgetText text)) (budget-text-refused text) (jobBudget (loadBudgetText text));
-      ofGuardedBudgetTextCheck = λ text. guarded-promised (jobProgram (loadBudgetText text)) (budget-text-refused text) 0;
+      ofGuardedBudgetTextProgram = λ text. guarded-promised (jobProgram (loadBudgetText text)) (budget-text-refused text);
     }

@@ -19,7 +19,7 @@ use Rattle.rules.specs.Calls.{Called, guardedRunOf, guardedAnswered, pau
 use Rattle.rules.specs.Relations.{BothGuarded, refused-alike, sink-alike, passed-alike}
 use Rattle.rules.specs.Soundness.{GuardedSound}
 use Rattle.rules.specs.Resumption.{guardedResumed}
-use Rattle.rules.specs.EveryCall.{IsAnswer, atEntry, insteadOfStep, atBudget, when, AnswersAfter, Kept, GuardedPromised, GuardedStepRefused, guarded-step-refused, at-sink, GuardedStepLast, guarded-step-last}
+use Rattle.rules.specs.EveryCall.{IsAnswer, atEntry, insteadOfStep, atBudget, when, AnswersAfter, GuardedKept, GuardedPromised, GuardedStepRefused, guarded-step-refused, at-sink, GuardedStepLast, guarded-step-last}
 use Rattle.rules.specs.EveryCall as Spec
 use Rattle.rules.proofs.Laws.AnswerLaws.{paused-meaning}
 use Rattle.rules.proofs.Laws.Passing.{passing-guarded-at}
@@ -229,10 +229,14 @@ module _ (program : List Instruction) (g : GuardedSnapshot) (ten : length (g .pl
   sound-end : (n : ℕ) → GuardedSound here (guardedRunOf program n g .state)
   sound-end n = guarded-run-sound here n (guardedStateOf g) (guarded-entry-sound program g ten enters)
 
-  kept : (n : ℕ) → Kept (g .plain) (guardedSnapshotAfter g (guardedRunOf program n g .state) .plain)
+  kept : (n : ℕ) → GuardedKept g (guardedSnapshotAfter g (guardedRunOf program n g .state))
   kept n =
-      let h = guarded-resumable program g (guardedRunOf program n g .state) enters (sound-end n) .plain in
-      record { psp = refl; storage = refl; addresses = h .addresses; numbers = h .numbers; tape = h .tape; output = h .output }
+      let h = guarded-resumable program g (guardedRunOf program n g .state) enters (sound-end n) in
+      let k = h .plain in
+      record {
+        plain = record { psp = refl; storage = refl; addresses = k .addresses; numbers = k .numbers; tape = k .tape; output = k .output };
+        marks = h .marks;
+      }
 
   settled : (n more : ℕ) → (guardedAnswered g (guardedRunOf program n g) .answer ≡ outcome 3 [] → ⊥)
       → withBudget (n + more) ≡ guardedAnswered g (guardedRunOf program n g)
@@ -243,5 +247,5 @@ module _ (program : List Instruction) (g : GuardedSnapshot) (ten : length (g .pl
   pub guarded-entered : (n : ℕ) → GuardedPromised (pass program) n g (withBudget n)
   guarded-entered n =
       subst (GuardedPromised (pass program) n g) (sym (guarded-passes program g n enters))
-      (promised _ _ _ _ _ _ (λ g. g .plain) (sym (guarded-passes program g n enters)) (guarded-counts here n (guardedStateOf g)) (kept n) (settled n)
+      (promised _ _ _ _ _ _ (λ g. g .plain) GuardedKept (sym (guarded-passes program g n enters)) (guarded-counts here n (guardedStateOf g)) (kept n) (settled n)
       (call-end n (guarded-end here n (guardedStateOf g))))

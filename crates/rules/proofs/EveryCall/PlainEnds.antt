@@ -18,7 +18,7 @@ use Rattle.rules.specs.Calls.{Called, plainRunOf, plainAnswered, pausedA
 use Rattle.rules.specs.Relations.{Both, both-refused, passed}
 use Rattle.rules.specs.Soundness.{Sound}
 use Rattle.rules.specs.Resumption.{resumed}
-use Rattle.rules.specs.EveryCall.{atEntry, insteadOfStep, atBudget, when, AnswersAfter, Kept, PlainPromised, PlainStepRefused, plain-step-refused, PlainStepLast, plain-step-last}
+use Rattle.rules.specs.EveryCall.{atEntry, insteadOfStep, atBudget, when, AnswersAfter, PlainKept, PlainPromised, PlainStepRefused, plain-step-refused, PlainStepLast, plain-step-last}
 use Rattle.rules.proofs.Laws.ResultLaws.{refuse-pass, pass-injective}
 use Rattle.rules.proofs.Laws.AnswerLaws.{paused-meaning}
 use Rattle.rules.proofs.Laws.Passing.{passing-at}
@@ -183,7 +183,7 @@ module _ (program : List Instruction) (s : Snapshot) (ten : length (s .machine .
   sound-end : (n : ℕ) → Sound here (plainRunOf program n s .state)
   sound-end n = run-sound here n (stateOf s) (entry-sound program s ten enters)
 
-  kept : (n : ℕ) → Kept s (snapshotAfter s (plainRunOf program n s .state))
+  kept : (n : ℕ) → PlainKept s (snapshotAfter s (plainRunOf program n s .state))
   kept n =
       let h = resumable program s (plainRunOf program n s .state) enters (sound-end n) in
       record { psp = refl; storage = refl; addresses = h .addresses; numbers = h .numbers; tape = h .tape; output = h .output }
@@ -197,5 +197,5 @@ module _ (program : List Instruction) (s : Snapshot) (ten : length (s .machine .
   pub plain-entered : (n : ℕ) → PlainPromised (pass program) n s (withBudget n)
   plain-entered n =
       subst (PlainPromised (pass program) n s) (sym (plain-passes program s n enters))
-      (promised _ _ _ _ _ _ (λ s. s) (sym (plain-passes program s n enters)) (plain-counts here n (stateOf s)) (kept n) (settled n)
+      (promised _ _ _ _ _ _ (λ s. s) PlainKept (sym (plain-passes program s n enters)) (plain-counts here n (stateOf s)) (kept n) (settled n)
       (call-end n (plain-end here n (stateOf s))))

@@ -7,7 +7,7 @@ use Rattle.rules.specs.Step.{Finish}
 use Rattle.rules.specs.Answers.{Meaning, outcome, meaning}
 use Rattle.rules.specs.Entry.{Snapshot}
 use Rattle.rules.specs.Calls.{Called, pausedAfter}
-use Rattle.rules.specs.EveryCall.{IsAnswer, ended, calling, delegate-calling, paused, When, atEntry, insteadOfStep, withStep, atBudget, when, AnswersAfter, by-end, by-call, by-delegate-call, by-clock, by-budget, Kept, Promised}
+use Rattle.rules.specs.EveryCall.{IsAnswer, ended, calling, delegate-calling, paused, When, atEntry, insteadOfStep, withStep, atBudget, when, AnswersAfter, by-end, by-call, by-delegate-call, by-clock, by-budget, Promised}
 use Rattle.rules.proofs.EveryCall.AnswerTimes.{place, apart, numbered}
 
 module _ {S : Type 0} (highest : ℕ) (StepIsRefused : S → Meaning → Type 0) (StepIsLast : S → Meaning → S → Type 0) (withBudget : ℕ → Called S) (budget : ℕ) (s : S) where
@@ -33,12 +33,12 @@ module _ {S : Type 0} (highest : ℕ) (StepIsRefused : S → Meaning → Type 0)
   not-paused : (v : When) (m : Meaning) → when m ≡ v → (place v ≡ 3 → ⊥) → m ≡ outcome 3 [] → ⊥
   not-paused v m h n e = apart v atBudget h (ap when e) n
 
-  pub promised : (plain : S → Snapshot) {c : Called S} → c ≡ withBudget budget
+  pub promised : (plain : S → Snapshot) (Kept : S → S → Type 0) {c : Called S} → c ≡ withBudget budget
       → plain (c .left) .machine .clk ≡ plain s .machine .clk + c .steps
-      → Kept (plain s) (plain (c .left))
+      → Kept s (c .left)
       → ((more : ℕ) → (c .answer ≡ outcome 3 [] → ⊥) → withBudget (budget + more) ≡ c)
-      → CallEnd c → Promised plain highest StepIsRefused StepIsLast withBudget budget s c
-  promised plain w clock kept settled (entry-refused a h) =
+      → CallEnd c → Promised plain Kept highest StepIsRefused StepIsLast withBudget budget s c
+  promised plain Kept w clock kept settled (entry-refused a h) =
       record {
         isCallWithBudget = w;
         answer = a;
@@ -53,7 +53,7 @@ module _ {S : Type 0} (highest : ℕ) (StepIsRefused : S → Meaning → Type 0)
         pausedByStep = λ e. absurd (not-paused atEntry _ h (λ z. omega arith) e);
         settled = settled;
       }
-  promised plain w clock kept settled (waits b) =
+  promised plain Kept w clock kept settled (waits b) =
       record {
         isCallWithBudget = w;
         answer = paused;
@@ -68,7 +68,7 @@ module _ {S : Type 0} (highest : ℕ) (StepIsRefused : S → Meaning → Type 0)
         pausedByStep = λ _ n. absurd (n refl);
         settled = settled;
       }
-  promised plain w clock kept settled (step-refused a h l p z r) =
+  promised plain Kept w clock kept settled (step-refused a h l p z r) =
       record {
         isCallWithBudget = w;
         answer = a;
@@ -83,7 +83,7 @@ module _ {S : Type 0} (highest : ℕ) (StepIsRefused : S → Meaning → Type 0)
         pausedByStep = λ e. absurd (not-paused insteadOfStep _ h (λ z. omega arith) e);
         settled = settled;
       }
-  promised plain w clock kept settled (step-ends {k} {t} a h l p r) =
+  promised plain Kept w clock kept settled (step-ends {k} {t} a h l p r) =
       record {
         isCallWithBudget = w;
         answer = a;
@@ -98,7 +98,7 @@ module _ {S : Type 0} (highest : ℕ) (StepIsRefused : S → Meaning → Type 0)
         pausedByStep = λ e. absurd (not-paused withStep _ h (λ z. omega arith) e);
         settled = settled;
       }
-  promised plain w clock kept settled (step-pauses {k} {t} b p r) =
+  promised plain Kept w clock kept settled (step-pauses {k} {t} b p r) =
       record {
         isCallWithBudget = w;
         answer = paused;

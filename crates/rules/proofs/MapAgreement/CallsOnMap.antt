@@ -66,9 +66,9 @@ calls-on-map =
       ofWords = λ words. plain-on-map (loadWords words);
       ofText = λ text. plain-on-map (loadText text);
       ofBudgetText = λ text. plain-on-map (jobProgram (loadBudgetText text)) (jobBudget (loadBudgetText text));
-      ofBudgetTextCheck = λ text. plain-on-map (jobProgram (loadBudgetText text)) 0;
+      ofBudgetTextProgram = λ text. plain-on-map (jobProgram (loadBudgetText text));
       ofGuardedWords = λ words. guarded-on-map (loadWords words);
       ofGuardedText = λ text. guarded-on-map (loadText text);
       ofGuardedBudgetText = λ text. guarded-on-map (jobProgram (loadBudgetText text)) (jobBudget (loadBudgetText text));
-      ofGuardedBudgetTextCheck = λ text. guarded-on-map (jobProgram (loadBudgetText text)) 0;
+      ofGuardedBudgetTextProgram = λ text. guarded-on-map (jobProgram (loadBudgetText text));
     }
