@@ -6,7 +6,7 @@ use Rattle.rules.specs.Frames.{loadWords}
 use Rattle.rules.specs.Calls.{plainWords, guardedWords}
 use Rattle.rules.specs.NonInterference.{NonInterference}
 
--- a step is a call with budget 1
+-- a step is a call with budget 1; both contracts name the same one
 pub record NonInterferingInPlace : Type 0 where
   pub guardedStep : (words : List ℕ) → NonInterference (loadWords words) 1 (guardedWords words 1) (plainWords words)
   pub lendAndStepGuarded : (words : List ℕ) → NonInterference (loadWords words) 1 (guardedWords words 1) (plainWords words)

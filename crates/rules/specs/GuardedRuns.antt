@@ -9,12 +9,14 @@ use Rattle.rules.specs.declared.Refusal.{Refusal}
 use Rattle.rules.specs.declared.Refusal.the-variants.{BadState}
 use Rattle.rules.specs.Numbers.{clockEnd}
 use Rattle.rules.specs.Results.{Result, refuse, pass}
+use Rattle.rules.specs.Frames.{loadWords}
+use Rattle.rules.specs.Text.{loadText, loadBudgetText}
 use Rattle.rules.specs.Cells.{numberCells}
 use Rattle.rules.specs.Step as Step
 use Rattle.rules.specs.Step.{Environment, State, Finish, goesOn, ends, calls, delegates}
 use Rattle.rules.specs.Answers.{Meaning, outcome, refusal, refusalMeaning}
 use Rattle.rules.specs.Entry.{GuardedSnapshot, guardedEntry, environment, stateOf, snapshotAfter}
-use Rattle.rules.specs.Calls.{Called, refusedCall}
+use Rattle.rules.specs.Calls.{Called, refusedCall, jobBudget, jobProgram, guardedCall, guardedWords, guardedText, guardedBudgetText}
 use Rattle.rules.specs.MarkRules.{Place, Marking, snapshotMarks}
 use Rattle.rules.specs.SinkRules.{ReachesSink, AcceptedStep, Comes}
 
@@ -69,7 +71,7 @@ pub record CallByRules (program : List Instruction) (budget : ℕ) (g : GuardedS
   pub run : RunFrom program budget g (c .answer) (c .steps) state marks
   pub gives : (m : Meaning) (k : ℕ) (s : State numberCells) (t : Marking) → RunFrom program budget g m k s t → Gives g c m k s t
 
--- The theorem: every guarded call of a program as loaded, with a budget
+-- Of a program as loaded, with a budget
 
 pub record GuardedRuns (program : Result (List Instruction)) (budget : ℕ) (guarded : GuardedSnapshot → Called GuardedSnapshot) : Type 0 where
   -- one that is refused at entry leaves everything
@@ -79,3 +81,13 @@ pub record GuardedRuns (program : Result (List Instruction)) (budget : ℕ) (gua
   -- one that passes entry is a run by the rules; a machine has ten registers by its type
   pub byRules : (g : GuardedSnapshot) → length (g .plain .machine .registers) ≡ 10 → guardedEntry g ≡ true
       → {instructions : List Instruction} → program ≡ pass instructions → CallByRules instructions budget g (guarded g)
+
+-- The theorem, for each public guarded call: a step has budget 1, a check 0. The program of a text with a budget line is called with the
+-- line's budget, and with any, beside it.
+pub record CallsByRules : Type 0 where
+  pub ofWords : (words : List ℕ) (budget : ℕ) → GuardedRuns (loadWords words) budget (guardedWords words budget)
+  pub ofText : (text : List ℕ) (budget : ℕ) → GuardedRuns (loadText text) budget (guardedText text budget)
+  pub ofBudgetText : (text : List ℕ)
+      → GuardedRuns (jobProgram (loadBudgetText text)) (jobBudget (loadBudgetText text)) (guardedBudgetText text)
+  pub ofBudgetTextProgram : (text : List ℕ) (budget : ℕ)
+      → GuardedRuns (jobProgram (loadBudgetText text)) budget (guardedCall (jobProgram (loadBudgetText text)) budget)

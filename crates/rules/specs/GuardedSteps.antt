@@ -11,7 +11,7 @@ use Rattle.rules.specs.Cells.{numberCells, markCells}
 use Rattle.rules.specs.Operands.{Operands}
 use Rattle.rules.specs.Step.{Environment, State, Finish, step}
 use Rattle.rules.specs.Guarded.{MarkState, GuardedState, GuardedNext, guardedStep}
-use Rattle.rules.specs.DecodedRegisters.{AllInRange}
+use Rattle.rules.specs.LoadedRegisters.{AllInRange}
 use Rattle.rules.specs.MarkRules.{Place, Marking, markingOf, MarkedAfter}
 use Rattle.rules.specs.SinkRules.{InstructionRead, ReachesSink, AcceptedStep}
 

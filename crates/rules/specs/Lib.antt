@@ -24,11 +24,10 @@ pub mod MalformedFrames
 pub mod NearestThousand
 pub mod MarkRules
 pub mod SinkRules
-pub mod DecodedRegisters
+pub mod LoadedRegisters
 pub mod GuardedSteps
 pub mod GuardedRuns
 pub mod NonInterference
-pub mod Witnesses
 pub mod Relations
 pub mod MapAgreement
 pub mod MapCalls
@@ -37,7 +36,7 @@ pub mod Resumption
 pub mod SplitCalls
 pub mod WrapTest
 pub mod SolveFits
--- tables of cases
+-- tables of cases, and what is said with their rows: the limit of a text, witnesses of demand 3
 pub mod Encoding
 pub mod CaseRows
 pub mod Cases
@@ -48,3 +47,4 @@ pub mod RefusalOrder
 pub mod StoreOrder
 pub mod SinkOrder
 pub mod TextLimit
+pub mod Witnesses

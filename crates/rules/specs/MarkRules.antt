@@ -22,7 +22,7 @@ pub data Place : Type 0 where
 abbrev pub Marking : Type 0
 Marking = Place → Bool
 
--- which ones a guarded state marks, and which ones a snapshot
+-- where the marks of a guarded state stand, and those of a snapshot
 abbrev pub markingOf : MarkState markCells → Marking
 markingOf t (register r) = registerMark (t .registers) r
 markingOf t (cell a) = cellMark markCells (t .cells) a

@@ -1,4 +1,4 @@
--- How much `solve` prints: for every input its lines fit a buffer of 69,703 bytes.
+-- How much `solve` prints: for every input at most 69,703 bytes.
 use Prim.Native.Nat.{ℕ, _+_, _*_, _≤_}
 use mathlib.Core.List.{List}
 use lib.ListN.{length}

@@ -132,6 +132,7 @@ pub record Beyond : Type 0 where
   pub addresses : guardedWords stores 1 (beyond 3) .left .plain .addresses ≡ 6 ∷ 3 ∷ []
   pub marks : guardedWords stores 1 (beyond 3) .left .marks ≡ 1 ∷ 3 ∷ []
 
+-- a mark that is carried on, one that would show, and what stands beyond the counts
 pub record Witnesses : Type 0 where
   pub carried : MarksCarried
   pub cellsCarried : CellsCarried

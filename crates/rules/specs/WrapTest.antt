@@ -32,13 +32,14 @@ module _ (numberMemory : Memory ℕ) where
 abbrev pub lastBelow : ℕ → Operands
 lastBelow n = record { op0 = 1; op1 = n; dst = p - 1 }
 
+-- at no TLOAD of a call does it decide anything
 pub record WrapTest : Type 1 where
   -- with a tape of at most 2^32 - 1 values, over any memory
   pub shortTape : (numberMemory : Memory ℕ) (e : Environment) (s : State numberMemory) → length (s .tape) ≤ 0xFFFFFFFF → DecidesNothing numberMemory e s
   -- with one value more it can decide: 14, and 15 without it
   pub longerTape : (numberMemory : Memory ℕ) (e : Environment) (s : State numberMemory) → s .tape ≡ replicate 0x100000000 0 → (i : Instruction)
       → (operate numberMemory e tapeLoad i s (lastBelow 0x100000000) ≡ refuse StoreFault) × (untested numberMemory i s (lastBelow 0x100000000) ≡ refuse ProphetStore)
-  -- every state that a call comes to has a tape of at most 4,096 values
+  -- so in every state that a call comes to, whose tape has at most 4,096 values, it decides nothing
   pub plainCalls : (program : List Instruction) (s : Snapshot) → length (s .machine .registers) ≡ 10 → plainEntry s ≡ true
       → (steps : ℕ) → DecidesNothing numberCells (environment program s) (plainRunOf program steps s .state)
   pub guardedCalls : (program : List Instruction) (g : GuardedSnapshot) → length (g .plain .machine .registers) ≡ 10 → guardedEntry g ≡ true

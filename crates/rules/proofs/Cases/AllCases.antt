@@ -18,6 +18,7 @@ pub starredHold : StarredHold
 unfolding calling starred
 starredHold = refl
 
+-- the other cases, but for the listing and kilosteps
 pub othersHold : OthersHold
 unfolding calling others
 othersHold = refl
@@ -26,6 +27,7 @@ pub kilostepsHold : KilostepsHold
 unfolding kilosteps
 kilostepsHold = refl
 
+-- what `solve` prints of the listing
 pub listingHolds : ListingHolds
 unfolding printing listing listingPrints
 listingHolds = refl
@@ -83,10 +85,12 @@ sinkAtClockHolds = refl
 
 -- Each condition of each refusal: EntryRefusals.antt, StepRefusals.antt
 
+-- bare words
 pub wordRefusalsHold : WordRefusalsHold
 unfolding calling wordRefusals
 wordRefusalsHold = (refl, refl, refl, refl)
 
+-- texts
 pub textRefusalsHold : TextRefusalsHold
 unfolding calling endLines
 textRefusalsHold =
@@ -110,6 +114,7 @@ outcomesHold = refl
 
 -- What each opcode gives, and what `solve` prints of refusals: StepCases.antt
 
+-- what each opcode gives, and how far it moves pc
 pub resultsHold : ResultsHold
 unfolding calling results lengths
 resultsHold = (refl, refl)

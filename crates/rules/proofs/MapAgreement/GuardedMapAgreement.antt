@@ -132,6 +132,7 @@ unfolding guardedRun
 same-guarded-run e zero h = record { answer = refl; steps = refl; state = h }
 same-guarded-run e (suc budget) h = same-on-step _ _ h (same-guarded-step e h) (λ q r k. same-guarded-run e budget k)
 
+-- steps and runs, plain and guarded
 pub map-agreement : (e : Environment) → MapAgreement e
 map-agreement e =
     record {

@@ -17,9 +17,9 @@ use Rattle.rules.specs.Guarded.{GuardedState}
 use Rattle.rules.specs.Answers.{Meaning}
 use Rattle.rules.specs.Entry.{GuardedSnapshot, guardedEntry, environment, guardedStateOf, snapshotAfter, guardedSnapshotAfter}
 use Rattle.rules.specs.Calls.{Called, refusedCall, guardedRunOf, guardedAnswered, guardedCall, jobBudget, jobProgram, guardedWords, guardedText, guardedBudgetText}
-use Rattle.rules.specs.DecodedRegisters.{AllInRange, LoadedInRange}
+use Rattle.rules.specs.LoadedRegisters.{AllInRange, LoadedInRange}
 use Rattle.rules.specs.MarkRules.{Place, Marking, markingOf, snapshotMarks}
-use Rattle.rules.specs.GuardedRuns.{RunFrom, Gives, CallByRules, GuardedRuns}
+use Rattle.rules.specs.GuardedRuns.{CallsByRules, RunFrom, Gives, CallByRules, GuardedRuns}
 use Rattle.rules.proofs.Laws.DecodedRegisters.{loadWords-in-range, loadText-in-range, loadBudgetText-in-range}
 use Rattle.rules.proofs.Soundness.EntrySoundness.{guarded-entry-sound}
 use Rattle.rules.proofs.Soundness.GuardedSoundness.{guarded-run-sound}
@@ -91,21 +91,13 @@ guarded-runs program l budget =
           (call-by-rules instructions (subst LoadedInRange h l) budget g ten enters);
     }
 
--- The three guarded calls
-
-pub words-by-rules : (words : List ℕ) (budget : ℕ) → GuardedRuns (loadWords words) budget (guardedWords words budget)
-unfolding guardedWords
-words-by-rules words budget = guarded-runs (loadWords words) (loadWords-in-range words) budget
-
-pub text-by-rules : (text : List ℕ) (budget : ℕ) → GuardedRuns (loadText text) budget (guardedText text budget)
-unfolding guardedText
-text-by-rules text budget = guarded-runs (loadText text) (loadText-in-range text) budget
-
--- a text's program with any budget, and with its own
-pub job-by-rules : (text : List ℕ) (budget : ℕ)
-    → GuardedRuns (jobProgram (loadBudgetText text)) budget (guardedCall (jobProgram (loadBudgetText text)) budget)
-job-by-rules text budget = guarded-runs (jobProgram (loadBudgetText text)) (loadBudgetText-in-range text) budget
-
-pub budget-text-by-rules : (text : List ℕ) → GuardedRuns (jobProgram (loadBudgetText text)) (jobBudget (loadBudgetText text)) (guardedBudgetText text)
-unfolding guardedBudgetText
-budget-text-by-rules text = job-by-rules text (jobBudget (loadBudgetText text))
+-- The public guarded calls
+pub calls-by-rules : CallsByRules
+unfolding guardedWords guardedText guardedBudgetText
+calls-by-rules =
+    record {
+      ofWords = λ words. guarded-runs (loadWords words) (loadWords-in-range words);
+      ofText = λ text. guarded-runs (loadText text) (loadText-in-range text);
+      ofBudgetText = λ text. guarded-runs (jobProgram (loadBudgetText text)) (loadBudgetText-in-range text) (jobBudget (loadBudgetText text));
+      ofBudgetTextProgram = λ text. guarded-runs (jobProgram (loadBudgetText text)) (loadBudgetText-in-range text);
+    }

@@ -22,7 +22,7 @@ use Rattle.rules.specs.Opcodes.{Class, classOf}
 use Rattle.rules.specs.Operands.{target, wantsOf, valueOf, operand, Operands, operands}
 use Rattle.rules.specs.Step.{State, r9, tapeValues}
 use Rattle.rules.specs.Guarded.{registerMark, operandMark, MarkState, cellMark, cleanMany, marksAfter}
-use Rattle.rules.specs.DecodedRegisters.{RegisterInRange, RegistersInRange}
+use Rattle.rules.specs.LoadedRegisters.{RegisterInRange, RegistersInRange}
 use Rattle.rules.specs.MarkRules.{
   Place,
   register,

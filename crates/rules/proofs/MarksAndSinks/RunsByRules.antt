@@ -17,7 +17,7 @@ use Rattle.rules.specs.Cells.{numberCells, markCells}
 use Rattle.rules.specs.Step.{Environment, State, Finish, goesOn, ends, calls, delegates, callee, step, RunEnd, stopsAt, afterStep, onClock, onFinish}
 use Rattle.rules.specs.Guarded.{MarkState, GuardedState, GuardedNext, guardedStep, onGuardedStep, guardedRun}
 use Rattle.rules.specs.Answers.{Meaning, outcome, refusal, refusalMeaning, meaning}
-use Rattle.rules.specs.DecodedRegisters.{AllInRange}
+use Rattle.rules.specs.LoadedRegisters.{AllInRange}
 use Rattle.rules.specs.MarkRules.{Place, Marking, markingOf}
 use Rattle.rules.specs.SinkRules.{ReachesSink, AcceptedStep, Comes, start, onward}
 use Rattle.rules.specs.GuardedRuns.{RefusedStep, LastStep, RunByRules, paused, refused, stopped, ended, called, delegated, clock}

@@ -13,7 +13,7 @@ use Rattle.rules.specs.Opcodes.{Class, addition, multiplication, equalit
 use Rattle.rules.specs.Operands.{Operands}
 use Rattle.rules.specs.Step.{Environment, State, Finish, Next, step}
 use Rattle.rules.specs.Guarded.{MarkState, marksAfter, GuardedState, GuardedNext, guardedRest, guardedStep}
-use Rattle.rules.specs.DecodedRegisters.{AllInRange}
+use Rattle.rules.specs.LoadedRegisters.{AllInRange}
 use Rattle.rules.specs.MarkRules.{Place, Marking, markingOf, MarkedAfter}
 use Rattle.rules.specs.SinkRules.{InstructionRead, ReachesSink, AcceptedStep}
 use Rattle.rules.specs.GuardedSteps.{Accepts, StepByRules, GuardedSteps}

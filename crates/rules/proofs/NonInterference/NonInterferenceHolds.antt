@@ -19,7 +19,7 @@ use Rattle.rules.specs.Answers.{Meaning, refusal, meaning}
 use Rattle.rules.specs.Entry.{GuardedSnapshot, lowBits, all, plainEntry, marksEntry, guardedEntry, environment, guardedStateOf, snapshotAfter, guardedSnapshotAfter}
 use Rattle.rules.specs.Calls.{Called, refusedCall, pausedAfter, plainRunOf, guardedRunOf, plainAnswered, guardedAnswered, plainCall, guardedCall, jobBudget, jobProgram, plainWords, plainText, guardedWords, guardedText, guardedBudgetText}
 use Rattle.rules.specs.Relations.{BothRan}
-use Rattle.rules.specs.DecodedRegisters.{LoadedInRange}
+use Rattle.rules.specs.LoadedRegisters.{LoadedInRange}
 use Rattle.rules.specs.MarkRules.{Marking}
 use Rattle.rules.specs.SinkRules.{ReachesSink, Comes}
 use Rattle.rules.specs.GuardedRuns.{RunByRules, paused, refused, stopped, ended, called, delegated, clock}
