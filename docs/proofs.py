@@ -189,7 +189,7 @@ def page():
                 continue
             path = ROOT / "crates" / crate / "specs" / f"{module}.antt"
             out += ["", f"### {path.relative_to(ROOT).as_posix()}", "", headline(path.read_text().splitlines()), ""]
-            out += ["| theorem | in crates/%s/proofs | statement | |" % crate, "|---|---|---|---|"]
+            out += ["| theorem | in crates/%s/proofs | statement | what it says |" % crate, "|---|---|---|---|"]
             for name, where, statement, comment in found[module]:
                 out.append(f"| `{name}` | {where} | `{statement}` | {comment} |")
     return "\n".join(out) + "\n"
