@@ -1,9 +1,17 @@
-//! Links the static library: from the folder in `OLA_LIBRARY`, by default where `rt staticlib ola` puts it.
+//! Links the static library, where the feature `link` asks for it: from the folder in `OLA_LIBRARY`, by default where `rt staticlib ola`
+//! puts it.
 
 use std::env;
 use std::path::Path;
 
 fn main() {
+    println!("cargo:rerun-if-changed=build.rs");
+    if env::var_os("CARGO_FEATURE_LINK").is_some() {
+        link();
+    }
+}
+
+fn link() {
     println!("cargo:rerun-if-env-changed=OLA_LIBRARY");
     let root = Path::new(env!("CARGO_MANIFEST_DIR"))
         .ancestors()

@@ -2,10 +2,11 @@
 
 use std::fmt::Write;
 
+use model::frames::encode;
+use model::state::State;
+
 use crate::case::Case;
-use crate::frames::encode;
 use crate::outcome::Outcome;
-use crate::state::State;
 use crate::stepper::{Mode, Stepper};
 
 pub const FORMAT: &str = "\

@@ -1,9 +1,8 @@
 //! A program, a start and a budget under a name, and short ways to write them.
 
-use ola_core::vm::opcodes::OlaOpcode;
-
-use crate::frames::{Frame, Operand};
-use crate::state::State;
+use model::frames::{Frame, Operand};
+use model::opcodes::Opcode;
+use model::state::State;
 
 #[derive(Debug, Clone)]
 pub struct Case {
@@ -68,7 +67,7 @@ impl Case {
     }
 }
 
-pub fn frame(opcode: OlaOpcode, op0: Operand, op1: Operand, dst: Operand) -> Frame {
+pub fn frame(opcode: Opcode, op0: Operand, op1: Operand, dst: Operand) -> Frame {
     Frame {
         opcode,
         op0,
@@ -79,7 +78,7 @@ pub fn frame(opcode: OlaOpcode, op0: Operand, op1: Operand, dst: Operand) -> Fra
 
 pub fn end() -> Frame {
     frame(
-        OlaOpcode::END,
+        Opcode::END,
         Operand::Absent,
         Operand::Absent,
         Operand::Absent,

@@ -2,13 +2,13 @@
 //!
 //! All of it lies outside the compared domain, save what a refused step leaves of pc and cells.
 
-use ola_core::vm::opcodes::OlaOpcode::*;
+use model::frames::{Frame, Operand};
+use model::numbers::{HEAP_END, MOST_CELLS, MOST_VALUES, P};
+use model::opcodes::Opcode::*;
 use ola_executor::CLOCK_LIMIT;
 
 use crate::answers::{write_answer, write_case, FORMAT};
 use crate::case::{end, frame, Case};
-use crate::domain::{HEAP_END, MOST_CELLS, MOST_OUTPUT, MOST_TAPE, P};
-use crate::frames::{Frame, Operand};
 use crate::stepper::Mode;
 
 pub struct Difference {
@@ -272,13 +272,13 @@ fn no_limits() -> Vec<Difference> {
         plain(
             one("one tape value too many", tstore)
                 .cells(0, &[5])
-                .tape(&[0; MOST_TAPE as usize]),
+                .tape(&[0; MOST_VALUES]),
             "refused 16",
         ),
         plain(
             one("one output value too many", tstore)
                 .cells(0, &[5])
-                .output(&[0; MOST_OUTPUT]),
+                .output(&[0; MOST_VALUES]),
             "refused 16",
         ),
         plain(

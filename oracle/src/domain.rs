@@ -6,27 +6,16 @@
 
 use std::collections::BTreeSet;
 
+use model::numbers::{HEAP_END, MOST_CELLS, MOST_VALUES, P, STACK_END};
 use ola_core::program::binary_program::BinaryInstruction;
 use ola_core::vm::hardware::access::cell_count;
-use ola_core::vm::hardware::{
-    OlaRegister, OlaSpecialRegister, MEM_HEAP_REGION, MEM_PROPHET_REGION, MEM_STACK_REGION,
-};
+use ola_core::vm::hardware::{OlaRegister, OlaSpecialRegister};
 use ola_core::vm::opcodes::OlaOpcode;
 use ola_core::vm::operands::{ImmediateValue, OlaOperand};
 
 use crate::stepper::Stepper;
 
-/// The prime, which also ends the memory.
-pub const P: u64 = MEM_PROPHET_REGION.end;
-pub const STACK_END: u64 = MEM_STACK_REGION.end;
-pub const HEAP_END: u64 = MEM_HEAP_REGION.end;
-
-/// The greatest buffers that may be lent.
-pub const MOST_CELLS: usize = 2048;
-pub const MOST_TAPE: u64 = 4096;
-pub const MOST_OUTPUT: usize = 4096;
-
-pub const LONGEST_SPAN: u64 = 4096;
+const LONGEST_SPAN: u64 = 4096;
 
 #[derive(Debug, Clone, Copy, PartialEq, Eq)]
 pub enum NotCompared {
@@ -145,14 +134,14 @@ impl Look<'_> {
                 let (op0, op1) = (op0()?, op1()?);
                 self.span(op0, op1)?;
                 let output = self.stepper.output().len() as u64 + op1;
-                has_capacity(self.stepper.tape_length() + op1 <= MOST_TAPE)?;
-                has_capacity(output <= MOST_OUTPUT as u64)
+                has_capacity(self.stepper.tape_length() + op1 <= MOST_VALUES as u64)?;
+                has_capacity(output <= MOST_VALUES as u64)
             }
             OlaOpcode::SCCALL => {
                 let op0 = op0()?;
                 op1()?;
                 self.span(op0, 4)?;
-                has_capacity(self.stepper.tape_length() + 12 <= MOST_TAPE)
+                has_capacity(self.stepper.tape_length() + 12 <= MOST_VALUES as u64)
             }
             OlaOpcode::POSEIDON
             | OlaOpcode::SLOAD

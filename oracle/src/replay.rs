@@ -5,13 +5,14 @@
 
 use std::fmt::Write;
 
+use model::frames::encode;
+use model::kilosteps::kilosteps;
+use model::numbers::{MOST_CELLS, MOST_VALUES};
+use model::state::State;
+
 use crate::case::Case;
-use crate::domain::{MOST_CELLS, MOST_OUTPUT, MOST_TAPE};
 use crate::first_list::{cases, SEED};
-use crate::frames::encode;
-use crate::kilosteps::kilosteps;
 use crate::outcome::{Answer, Outcome};
-use crate::state::State;
 use crate::stepper::{Mode, Stepper};
 
 /// What a lent buffer holds where nothing was written.
@@ -139,7 +140,7 @@ fn parts(state: &State) -> [Part; 7] {
         part("registers", state.registers.to_vec()),
         part(
             "state",
-            vec![state.pc, state.clk, state.psp_start, c0, c1, c2, c3],
+            vec![state.pc, state.clk, state.psp, c0, c1, c2, c3],
         ),
         part("used", counts.map(|count| count as u64).to_vec()),
         part("addresses", state.cells.keys().copied().collect()),
@@ -155,15 +156,7 @@ struct Shown([Part; 7]);
 impl Shown {
     fn new(start: &State) -> Shown {
         let mut parts = parts(start);
-        let lengths = [
-            0,
-            0,
-            0,
-            MOST_CELLS,
-            MOST_CELLS,
-            MOST_TAPE as usize,
-            MOST_OUTPUT,
-        ];
+        let lengths = [0, 0, 0, MOST_CELLS, MOST_CELLS, MOST_VALUES, MOST_VALUES];
         for (part, length) in parts.iter_mut().zip(lengths) {
             part.values.resize(length.max(part.values.len()), UNUSED);
         }

@@ -6,6 +6,8 @@ use std::collections::HashMap;
 use std::panic::{catch_unwind, AssertUnwindSafe};
 use std::sync::Once;
 
+use model::frames::Frame;
+use model::state::State;
 use ola_core::program::binary_program::BinaryInstruction;
 use ola_core::trace::exe_trace::ExeTraceStepDiff;
 use ola_core::vm::hardware::access::{cells_of, memory_with};
@@ -16,9 +18,8 @@ use ola_executor::ola_storage::OlaCachedStorage;
 use ola_executor::tx_exe_manager::TxEventManager;
 use ola_executor::{Executor, Fields, Resumed, CLOCK_LIMIT};
 
-use crate::frames::Frame;
+use crate::instructions::instruction_of;
 use crate::outcome::{Answer, Failure, Outcome};
-use crate::state::State;
 
 #[derive(Debug, Clone, Copy, PartialEq, Eq)]
 pub enum Mode {
@@ -47,11 +48,12 @@ impl Stepper {
             },
             context: ExeContext {
                 storage_addr: start.storage_address,
+                // Never read by a step.
                 code_addr: [0; 4],
             },
             clk: start.clk,
             pc: start.pc,
-            psp_start: start.psp_start,
+            psp_start: start.psp,
             registers: start.registers,
             memory: memory_with(&start.cells),
             instructions: instructions_by_pc(program),
@@ -117,12 +119,13 @@ impl Stepper {
         Answer { steps, outcome }
     }
 
+    /// The cells that the source put into the prophet region are among those of the state.
     pub fn state(&self) -> State {
         State {
             registers: *self.executor.registers(),
             pc: self.executor.pc(),
             clk: self.executor.clk(),
-            psp_start: self.executor.psp_start(),
+            psp: self.executor.psp_start(),
             storage_address: self.executor.storage_addr(),
             cells: cells_of(self.executor.memory()),
             tape: (0..self.tape.tp())
@@ -200,7 +203,7 @@ fn instructions_by_pc(program: &[Frame]) -> HashMap<u64, BinaryInstruction> {
     program
         .iter()
         .map(|frame| {
-            let instruction = frame.instruction();
+            let instruction = instruction_of(frame);
             let start = pc;
             pc += instruction.binary_length() as u64;
             (start, instruction)

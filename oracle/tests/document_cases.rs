@@ -1,11 +1,11 @@
 //! Document 01's cases where the source agrees.
 
-use oracle::domain::{P, STACK_END};
+use model::frames::{decode, encode, Frame, NoProgram, Operand};
+use model::numbers::{P, STACK_END};
+use model::state::State;
 use oracle::first_list::cases;
 use oracle::first_list::operand_kinds::compared_opcodes;
-use oracle::frames::{decode, encode, Frame, NoProgram, Operand};
 use oracle::outcome::{Answer, Outcome};
-use oracle::state::State;
 use oracle::stepper::{Mode, Stepper};
 
 /// What the source does with the case of this name.

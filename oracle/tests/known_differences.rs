@@ -2,18 +2,19 @@
 
 use std::str::FromStr;
 
+use model::frames::{Frame, Operand};
+use model::numbers::{HEAP_END, P, STACK_END};
+use model::opcodes::Opcode;
+use model::state::State;
 use ola_core::program::binary_program::BinaryProgram;
 use ola_core::vm::hardware::{ExeContext, OlaTape};
-use ola_core::vm::opcodes::OlaOpcode;
 use ola_core::vm::operands::ImmediateValue;
 use ola_executor::config::ExecuteMode;
 use ola_executor::Executor;
 use oracle::case::{end, frame};
 use oracle::differences::differences;
-use oracle::domain::{HEAP_END, P, STACK_END};
-use oracle::frames::{Frame, Operand};
+use oracle::instructions::instruction_of;
 use oracle::outcome::{Answer, Failure, Outcome};
-use oracle::state::State;
 use oracle::stepper::{Mode, Stepper};
 
 /// What the source does with the difference of this name.
@@ -135,7 +136,7 @@ fn nothing_is_limited() {
 #[test]
 fn a_loop_goes_on_until_the_clock_ends() {
     let to_itself = frame(
-        OlaOpcode::JMP,
+        Opcode::JMP,
         Operand::Absent,
         Operand::Immediate(0),
         Operand::Absent,
@@ -157,7 +158,7 @@ fn a_loop_goes_on_until_the_clock_ends() {
 #[test]
 fn a_long_span_asks_for_memory_first() {
     let tstore = frame(
-        OlaOpcode::TSTORE,
+        Opcode::TSTORE,
         Operand::Immediate(0),
         Operand::Immediate(1 << 60),
         Operand::Absent,
@@ -171,13 +172,13 @@ fn a_long_span_asks_for_memory_first() {
 fn the_source_begins_with_a_heap_cell() {
     let program = [
         frame(
-            OlaOpcode::MOV,
+            Opcode::MOV,
             Operand::Absent,
             Operand::Immediate(STACK_END),
             Operand::Register(0),
         ),
         frame(
-            OlaOpcode::MLOAD,
+            Opcode::MLOAD,
             Operand::Register(0),
             Operand::Immediate(0),
             Operand::Register(1),
@@ -203,7 +204,7 @@ fn the_source_decodes_no_immediate_from_p_on() {
     assert_eq!(at_p.unwrap_err(), "Immediate overflow: 0xffffffff00000001");
 
     let mov_p = frame(
-        OlaOpcode::MOV,
+        Opcode::MOV,
         Operand::Absent,
         Operand::Immediate(P),
         Operand::Register(0),
@@ -220,6 +221,6 @@ fn the_source_decodes_no_immediate_from_p_on() {
 
 /// The source's own form of a program.
 fn encoded(program: &[Frame]) -> Result<BinaryProgram, String> {
-    let instructions = program.iter().map(Frame::instruction).collect();
+    let instructions = program.iter().map(instruction_of).collect();
     BinaryProgram::from_instructions(instructions, None, false)
 }

@@ -1,8 +1,8 @@
 //! The mode with traces.
 
-use ola_core::vm::opcodes::OlaOpcode;
+use model::frames::Operand;
+use model::opcodes::Opcode;
 use oracle::case::{end, frame, Case};
-use oracle::frames::Operand;
 use oracle::outcome::Outcome;
 use oracle::stepper::{Mode, Stepper};
 
@@ -15,8 +15,8 @@ fn each_step_adds_a_row_with_the_clock_before_it() {
     let case = Case::new(
         "",
         &[
-            frame(OlaOpcode::ADD, R1, R1, R2),
-            frame(OlaOpcode::NOT, ABSENT, R2, R1),
+            frame(Opcode::ADD, R1, R1, R2),
+            frame(Opcode::NOT, ABSENT, R2, R1),
             end(),
         ],
     )
@@ -46,7 +46,7 @@ fn no_rows_without_traces() {
 #[test]
 fn a_traced_mload_shows_the_register_of_its_op1() {
     let factor = Operand::Factor(1, 3);
-    let case = Case::new("", &[frame(OlaOpcode::MLOAD, R2, factor, R1)])
+    let case = Case::new("", &[frame(Opcode::MLOAD, R2, factor, R1)])
         .register(1, 2)
         .cells(6, &[9]);
     let mut stepper = Stepper::new(&case.program, &case.start, Mode::Traced);
@@ -60,21 +60,21 @@ fn which_operands_a_row_shows() {
     let (none, all) = ((false, false, false), (true, true, true));
     let only_op1 = (false, true, false);
     for (opcode, op0, op1, dst, shown) in [
-        (OlaOpcode::ADD, R2, R1, R1, all),
-        (OlaOpcode::MLOAD, R2, R1, R1, all),
-        (OlaOpcode::MSTORE, R2, R1, R1, all),
-        (OlaOpcode::NOT, ABSENT, R1, R1, (false, true, true)),
-        (OlaOpcode::MOV, ABSENT, R1, R1, (false, true, true)),
-        (OlaOpcode::ASSERT, ABSENT, R1, ABSENT, only_op1),
-        (OlaOpcode::RC, ABSENT, R1, ABSENT, only_op1),
-        (OlaOpcode::JMP, ABSENT, R1, ABSENT, only_op1),
-        (OlaOpcode::CJMP, R1, R1, ABSENT, only_op1),
-        (OlaOpcode::CALL, ABSENT, R1, ABSENT, only_op1),
-        (OlaOpcode::RET, ABSENT, ABSENT, ABSENT, none),
-        (OlaOpcode::END, ABSENT, ABSENT, ABSENT, none),
-        (OlaOpcode::TLOAD, R1, R1, R1, (true, true, false)),
-        (OlaOpcode::TSTORE, R1, R1, ABSENT, (true, true, false)),
-        (OlaOpcode::SCCALL, R1, R1, ABSENT, (true, true, false)),
+        (Opcode::ADD, R2, R1, R1, all),
+        (Opcode::MLOAD, R2, R1, R1, all),
+        (Opcode::MSTORE, R2, R1, R1, all),
+        (Opcode::NOT, ABSENT, R1, R1, (false, true, true)),
+        (Opcode::MOV, ABSENT, R1, R1, (false, true, true)),
+        (Opcode::ASSERT, ABSENT, R1, ABSENT, only_op1),
+        (Opcode::RC, ABSENT, R1, ABSENT, only_op1),
+        (Opcode::JMP, ABSENT, R1, ABSENT, only_op1),
+        (Opcode::CJMP, R1, R1, ABSENT, only_op1),
+        (Opcode::CALL, ABSENT, R1, ABSENT, only_op1),
+        (Opcode::RET, ABSENT, ABSENT, ABSENT, none),
+        (Opcode::END, ABSENT, ABSENT, ABSENT, none),
+        (Opcode::TLOAD, R1, R1, R1, (true, true, false)),
+        (Opcode::TSTORE, R1, R1, ABSENT, (true, true, false)),
+        (Opcode::SCCALL, R1, R1, ABSENT, (true, true, false)),
     ] {
         let case = Case::new("", &[frame(opcode, op0, op1, dst)])
             .register(1, 1)
@@ -82,16 +82,16 @@ fn which_operands_a_row_shows() {
             .cells(0, &[0; 8])
             .tape(&[0; 2]);
         let mut stepper = Stepper::new(&case.program, &case.start, Mode::Traced);
-        assert_eq!(stepper.step().steps, 1, "{opcode}");
+        assert_eq!(stepper.step().steps, 1, "{opcode:?}");
         let row = &stepper.traces()[0].cpu[0];
         let present = (row.op0.is_some(), row.op1.is_some(), row.dst.is_some());
-        assert_eq!(present, shown, "{opcode}");
+        assert_eq!(present, shown, "{opcode:?}");
     }
 }
 
 #[test]
 fn a_traced_call_reads_below_the_return_pc() {
-    let call = frame(OlaOpcode::CALL, ABSENT, Operand::Immediate(7), ABSENT);
+    let call = frame(Opcode::CALL, ABSENT, Operand::Immediate(7), ABSENT);
     let case = Case::new("", &[call]).register(9, 2);
     let mut untraced = Stepper::new(&case.program, &case.start, Mode::Plain);
     assert_eq!(untraced.step().steps, 1);
@@ -109,7 +109,7 @@ fn a_traced_call_reads_below_the_return_pc() {
 
 #[test]
 fn an_ignored_operand_without_encoding_fails_the_step() {
-    let odd_end = frame(OlaOpcode::END, Operand::Pc, ABSENT, ABSENT);
+    let odd_end = frame(Opcode::END, Operand::Pc, ABSENT, ABSENT);
     let start = Case::new("", &[]).start;
     let mut untraced = Stepper::new(&[odd_end], &start, Mode::Plain);
     assert_eq!(untraced.step().outcome, Outcome::Ended(vec![]));

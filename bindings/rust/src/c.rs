@@ -1,6 +1,6 @@
 //! The functions of include/ola.h.
 
-use crate::{Answer, Machine, Marks};
+use crate::records::{Answer, Machine, Marks};
 
 extern "C" {
     pub fn ola_run_words(

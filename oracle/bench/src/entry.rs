@@ -1,10 +1,10 @@
 //! What a call costs before its first step: a budget of one.
 
-use oracle::frames::encode;
-use oracle::state::State;
+use model::frames::encode;
+use model::lending::{lend, GREATEST};
+use model::state::State;
 
 use crate::contenders::{Calls, GUARDED, PLAIN, YARDSTICK};
-use crate::lent::lent;
 use crate::programs;
 use crate::timing::{verdict, Rounds};
 
@@ -55,7 +55,7 @@ pub fn calls(frames: usize, cells: u64) -> Calls {
     };
     Calls {
         words: encode(&programs::of_length(frames)),
-        start: lent(&start),
+        start: lend(&start, GREATEST),
         budget: 1,
         count: CALLS,
     }

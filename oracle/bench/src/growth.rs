@@ -2,19 +2,19 @@
 
 use std::collections::BTreeMap;
 
-use ola_core::vm::opcodes::OlaOpcode::{ADD, MLOAD, MSTORE, TLOAD, TSTORE};
+use model::frames::{encode, Frame, Operand};
+use model::lending::{lend, GREATEST};
+use model::numbers::MOST_VALUES;
+use model::opcodes::Opcode::{ADD, MLOAD, MSTORE, TLOAD, TSTORE};
+use model::state::State;
 use oracle::case::frame;
-use oracle::domain::MOST_TAPE;
-use oracle::frames::{encode, Frame, Operand};
 use oracle::splitmix::SplitMix64;
-use oracle::state::State;
 use oracle::stepper::{Mode, Stepper};
 use Operand::{Absent, Immediate, Register};
 
 use crate::chart::{Line, Panel, BLUE, GREEN, ORANGE, RED};
 use crate::contenders::{Calls, GUARDED, PLAIN, YARDSTICK};
 use crate::entry;
-use crate::lent::lent;
 use crate::programs::{self, jump, DISTANCE, SEED};
 use crate::timing::{timed, Rounds, Try};
 
@@ -154,7 +154,7 @@ fn call_by_budget() -> Panel {
     let count = |budget: u64| 1 + (10_000 / budget) as usize;
     let calls = BUDGETS.map(|budget| Calls {
         words: encode(&arithmetic.program),
-        start: lent(&arithmetic.start),
+        start: lend(&arithmetic.start, GREATEST),
         budget,
         count: count(budget),
     });
@@ -281,7 +281,7 @@ fn new_tape_cells(values: u64) -> Calls {
 /// TSTORE, as often as the greatest tape allows.
 fn tape_stores(values: u64) -> Calls {
     let store = frame(TSTORE, Immediate(0), Immediate(values), Absent);
-    let stores = vec![store; (MOST_TAPE / values).min(16) as usize];
+    let stores = vec![store; (MOST_VALUES as u64 / values).min(16) as usize];
     once(&stores, with_cells(0, values, 1), 20)
 }
 
@@ -299,7 +299,7 @@ fn looped(mut program: Vec<Frame>, start: State, steps: u64) -> Calls {
     program.push(jump(0));
     Calls {
         words: encode(&program),
-        start: lent(&start),
+        start: lend(&start, GREATEST),
         budget: steps,
         count: 1,
     }
@@ -309,7 +309,7 @@ fn looped(mut program: Vec<Frame>, start: State, steps: u64) -> Calls {
 fn once(program: &[Frame], start: State, count: usize) -> Calls {
     Calls {
         words: encode(program),
-        start: lent(&start),
+        start: lend(&start, GREATEST),
         budget: program.len() as u64,
         count,
     }

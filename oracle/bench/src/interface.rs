@@ -1,11 +1,11 @@
 //! What a call of each function of the C interface costs, by the program's length: one step, in one call and in place, no step, and the
 //! check alone.
 
+use model::frames::encode;
+use model::lending::{lend, GREATEST};
+use model::state::State;
 use ola::{Answer, Lent, Program};
-use oracle::frames::encode;
-use oracle::state::State;
 
-use crate::lent::lent;
 use crate::programs;
 use crate::timing::{timed, Rounds, Try};
 
@@ -56,7 +56,7 @@ pub fn table() -> String {
 fn measure(frames: usize) -> Rounds {
     eprintln!("bench: interface, {frames} frames");
     let words = encode(&programs::of_length(frames));
-    let start = lent(&State::default());
+    let start = lend(&State::default(), GREATEST);
     let tries = FUNCTIONS.map(|(_, function)| -> Try {
         let (words, start) = (&words, &start);
         Box::new(move || time(words, start, function))

@@ -7,9 +7,6 @@ mod entry;
 mod growth;
 mod instructions;
 mod interface;
-mod lent;
-#[path = "../../compare/src/machine.rs"]
-mod machine;
 mod programs;
 mod stack;
 mod steps;

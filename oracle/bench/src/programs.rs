@@ -1,10 +1,11 @@
 //! The programs whose steps are measured. Each loops without end and is never refused.
 
-use ola_core::vm::opcodes::OlaOpcode::{self, *};
+use model::code::length_of;
+use model::frames::{Frame, Operand};
+use model::opcodes::Opcode::{self, *};
+use model::state::State;
 use oracle::case::frame;
-use oracle::frames::{Frame, Operand};
 use oracle::splitmix::SplitMix64;
-use oracle::state::State;
 use Operand::{Absent, Immediate, Register};
 
 pub struct Workload {
@@ -201,7 +202,7 @@ fn generated_program(random: &mut SplitMix64) -> Vec<Frame> {
     let mut program = vec![];
     let mut pc = 0;
     let mut push = |frame: Frame| {
-        pc += frame.instruction().binary_length() as u64;
+        pc += length_of(&frame);
         program.push(frame);
         pc
     };
@@ -224,7 +225,7 @@ fn push_drawn(random: &mut SplitMix64, push: &mut impl FnMut(Frame) -> u64) {
         }
         1..=2 => {
             let (condition, skipped) = (small(random), plain_instruction(random));
-            let length = skipped.instruction().binary_length() as u64;
+            let length = length_of(&skipped);
             let pc = push(frame(GTE, condition, small(random), Register(7)));
             // CJMP with an immediate advances pc by 2.
             push(frame(CJMP, Register(7), Immediate(pc + 2 + length), Absent));
@@ -239,7 +240,7 @@ fn push_drawn(random: &mut SplitMix64, push: &mut impl FnMut(Frame) -> u64) {
 fn plain_instruction(random: &mut SplitMix64) -> Frame {
     let wide = |random: &mut SplitMix64| Register(random.below(4) as usize);
     let small_register = |random: &mut SplitMix64| Register(4 + random.below(3) as usize);
-    let opcodes: [OlaOpcode; 14] = [
+    let opcodes: [Opcode; 14] = [
         ADD, ADD, MUL, EQ, NEQ, MOV, NOT, AND, OR, XOR, MLOAD, MSTORE, TLOAD, ADD,
     ];
     match random.pick(&opcodes) {

@@ -3,11 +3,11 @@
 use std::hint::black_box;
 use std::thread;
 
+use model::frames::encode;
+use model::lending::{lend, GREATEST};
+use model::state::State;
 use ola::{Lent, Program};
-use oracle::frames::encode;
-use oracle::state::State;
 
-use crate::lent::lent;
 use crate::programs;
 use crate::text::as_text;
 
@@ -51,7 +51,7 @@ pub fn table() -> String {
 
 /// In a thread of its own, whose stack is known to be large enough.
 fn of_call(call: impl Fn(&mut Lent) -> u64 + Send) -> usize {
-    let mut lent = lent(&State::default());
+    let mut lent = lend(&State::default(), GREATEST);
     thread::scope(|scope| {
         let measured = thread::Builder::new()
             .stack_size(STACK)

@@ -1,11 +1,11 @@
 //! The time of a step: the Rust `resume`, the yardstick, and the library's plain and guarded run.
 
-use oracle::frames::encode;
+use model::frames::encode;
+use model::lending::{lend, GREATEST};
 use oracle::outcome::Outcome;
 use oracle::stepper::{Mode, Stepper};
 
 use crate::contenders::Calls;
-use crate::lent::lent;
 use crate::programs::{self, Workload};
 use crate::timing::{timed, verdict, Rounds, Try};
 
@@ -74,7 +74,7 @@ fn measure(workload: &Workload) -> Rounds {
 pub fn calls(workload: &Workload, steps: u64) -> [Calls; 2] {
     let without_marks = Calls {
         words: encode(&workload.program),
-        start: lent(&workload.start),
+        start: lend(&workload.start, GREATEST),
         budget: steps,
         count: 1,
     };

@@ -1,16 +1,17 @@
 //! What a program costs as text: 512 frames of each length, checked, and run with budget 1. Programs take turns, so that no digit is
 //! foreseen from the call before.
 
+use model::frames::{encode, Frame, Operand};
+use model::lending::{lend, GREATEST};
+use model::numbers::MOST_FRAMES;
+use model::opcodes::Opcode::{ADD, RC, TLOAD};
+use model::state::State;
 use ola::{Answer, Lent, Program};
-use ola_core::vm::opcodes::OlaOpcode::{ADD, RC, TLOAD};
 use oracle::case::frame;
-use oracle::frames::{encode, Frame, Operand, MOST_FRAMES};
 use oracle::splitmix::SplitMix64;
-use oracle::state::State;
 use Operand::{Absent, Immediate, Register};
 
 use crate::before::Before;
-use crate::lent::lent;
 use crate::programs::SEED;
 use crate::timing::{timed, verdict, Rounds, Try};
 use crate::yardstick;
@@ -162,7 +163,7 @@ fn measure(row: &Row, before: Option<&Before>) -> Rounds {
 
 /// Nanoseconds a call.
 fn time<'a>(programs: &'a [Forms], call: impl Fn(&Forms, &mut Lent) -> Answer + 'a) -> Try<'a> {
-    let start = lent(&State::default());
+    let start = lend(&State::default(), GREATEST);
     Box::new(move || {
         let mut lent = start.clone();
         let (time, ()) = timed(|| {

@@ -1,11 +1,10 @@
 //! Damages to what a call is handed: to a state, to words, to a text. Some go only to a limit and not past it.
 
+use model::lending::GREATEST;
+use model::numbers::CLOCK_LIMIT;
+use model::numbers::{HEAP_END, P};
 use ola::Lent;
-use oracle::domain::{HEAP_END, P};
 use oracle::splitmix::SplitMix64;
-
-use crate::lending::GREATEST;
-use crate::model::CLOCK_LIMIT;
 
 /// Damages the part of a state that both runs look at.
 pub fn plain_state(random: &mut SplitMix64, lent: &mut Lent) {

@@ -1,15 +1,16 @@
 //! Calls with damaged states, words and texts, in fenced buffers: what they answer and leave is what the model of the entry says, and the
 //! check alone says what the call is refused with.
 
+use model::entry::{budget_of, Refusal, Run, REASONS};
+use model::frames::{encode, Frame};
+use model::predict::predict;
 use ola::{Answer, Lent, Program};
-use oracle::frames::Frame;
 
 use crate::damage;
-use crate::entry::{budget_of, Refusal, Run, REASONS};
+use crate::differences::as_predicted;
 use crate::fenced::Fenced;
 use crate::generate::{self, starts, Form};
 use crate::options::Options;
-use crate::predict::predict;
 use crate::progress::Progress;
 use crate::sides::PAUSED;
 use crate::tables::{grouped, head, row};
@@ -95,7 +96,7 @@ fn compare_call(seed: u64, number: u64, counts: &mut Counts) -> Result<(), Strin
 /// A program's words, or its text.
 fn written(frames: &[Frame], shape: Shape, budget: u64) -> (Vec<u64>, Vec<u8>) {
     if shape == Shape::Words {
-        return (oracle::frames::encode(frames), vec![]);
+        return (encode(frames), vec![]);
     }
     let mut text = String::new();
     if shape == Shape::BudgetText {
@@ -129,7 +130,7 @@ fn predicted_call(
         return Err(format!("a write out of range, with {answer:x?}"));
     }
     let predicted = predict(program, start, run);
-    predicted.holds(&answer, &fenced.lent())?;
+    as_predicted(&predicted, &answer, &fenced.lent())?;
     let checked = match run {
         Run::Plain => start.check(program),
         Run::Guarded => start.guarded_check(program),

@@ -3,9 +3,8 @@
 use std::iter::once;
 use std::ops::Range;
 
+use model::entry::Run;
 use ola::{guarded_run, run, Answer, Buffers, Lent, Machine, Marks, Program};
-
-use crate::entry::Run;
 
 const FENCE: u64 = 0xFE4C_EFE4_CEFE_4CEF;
 const WIDTH: usize = 8;

@@ -4,14 +4,15 @@ mod edges;
 mod loops;
 pub mod starts;
 
+use model::frames::Frame;
+use model::numbers::{MOST_CELLS, MOST_VALUES};
+use model::opcodes::OPCODES;
+use model::state::State;
 use oracle::case::Case;
-use oracle::domain::{MOST_CELLS, MOST_OUTPUT, MOST_TAPE};
 use oracle::first_list::operand_kinds::operand_of_kind;
 use oracle::first_list::programs::{natural_frame, random_program, random_start, starts_of};
 use oracle::first_list::values;
-use oracle::frames::{Frame, OPCODES};
 use oracle::splitmix::SplitMix64;
-use oracle::state::State;
 
 /// Where cells that only take space begin.
 const CROWD_START: u64 = 1000;
@@ -84,8 +85,8 @@ fn crowd(random: &mut SplitMix64, start: &mut State) {
             let addresses = (CROWD_START..).take(more);
             start.cells.extend(addresses.map(|address| (address, 7)));
         }
-        1 => start.tape.resize(MOST_TAPE as usize - free, 7),
-        _ => start.output.resize(MOST_OUTPUT - free, 7),
+        1 => start.tape.resize(MOST_VALUES - free, 7),
+        _ => start.output.resize(MOST_VALUES - free, 7),
     }
 }
 

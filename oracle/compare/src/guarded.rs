@@ -1,18 +1,18 @@
 //! The library's guarded run: pairs of starts that differ in marked numbers alone, the plain run beside it, and the model, which says where
 //! refusal 18 comes.
 
+use model::entry::Run;
+use model::frames::encode;
+use model::predict::{predict, Prediction};
+use model::sinks::{all_sinks, Sink};
 use ola::{Answer, Buffers, Lent, Machine, Program};
-use oracle::frames::encode;
 use oracle::splitmix::SplitMix64;
 
 use crate::counts::all_met;
 use crate::damage;
-use crate::entry::Run;
+use crate::differences::{as_predicted, difference};
 use crate::generate::{self, starts, Form};
-use crate::lending::difference;
-use crate::model::{all_sinks, Sink};
 use crate::options::Options;
-use crate::predict::{predict, Prediction};
 use crate::progress::Progress;
 use crate::tables::{grouped, head, row};
 
@@ -97,7 +97,7 @@ fn guarded(program: Program, start: &Lent) -> Result<(Answer, Lent, Prediction),
     let predicted = predict(program, start, Run::Guarded);
     let mut left = start.clone();
     let answer = left.guarded_run(program);
-    predicted.holds(&answer, &left)?;
+    as_predicted(&predicted, &answer, &left)?;
     Ok((answer, left, predicted))
 }
 

@@ -3,16 +3,11 @@
 mod counts;
 mod damage;
 mod damaged;
-mod entry;
+mod differences;
 mod fenced;
 mod generate;
 mod guarded;
-mod lending;
-mod machine;
-mod model;
 mod options;
-mod play;
-mod predict;
 mod progress;
 mod region_edges;
 mod sides;
@@ -22,7 +17,6 @@ mod tables;
 use std::process::ExitCode;
 
 use options::Options;
-use play::Machine;
 
 /// A part of the comparison.
 struct Part {
@@ -65,8 +59,6 @@ fn main() -> ExitCode {
             print!("{}", help());
             Ok(())
         }
-        Some((name, [])) if name == "play" => play::play(Machine::Library),
-        Some((name, [])) if name == "play-model" => play::play(Machine::Model),
         Some((name, rest)) => compare(name, rest),
         None => Err(format!("no command\n{}", help())),
     };
@@ -105,8 +97,6 @@ fn help() -> String {
 usage: compare COMMAND [--count COUNT] [--seed SEED] [--only NUMBER]
 
 {}  all        each of them
-  play       plays the cases of standard input on the library (conformance/FORMAT.md)
-  play-model plays them on the models of the entry and of the run
   --help     prints this
 
   --count    how much is compared at least; by default {}

@@ -1,8 +1,8 @@
 //! How often steps came to cells around the ends of the memory's regions.
 
-use oracle::domain::{HEAP_END, P, STACK_END};
+use model::machine::{Access, Touched};
+use model::numbers::{HEAP_END, P, STACK_END};
 
-use crate::model::{Access, Touched};
 use crate::tables::{grouped, head, row};
 
 const ACCESSES: [(Access, &str); 3] = [

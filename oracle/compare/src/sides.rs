@@ -1,17 +1,19 @@
 //! `resume`, the library and the model, each with its own state, stepped side by side.
 
+use model::code::Code;
+use model::frames::encode;
+use model::lending::{left_plain, lend, machine_of, GREATEST};
+use model::machine::{answer_of, Model};
+use model::numbers::CLOCK_LIMIT;
 use ola::{Answer, Lent, Program};
 use ola_core::vm::hardware::access::cell_count;
 use oracle::case::Case;
 use oracle::domain::why_not_compared;
-use oracle::frames::encode;
 use oracle::outcome::Outcome;
 use oracle::stepper::{Mode, Stepper};
 
 use crate::counts::{StepCounts, Stepped};
-use crate::lending::{difference, left_plain, lend, GREATEST};
-use crate::machine::machine_of;
-use crate::model::{answer_of, Code, Model, CLOCK_LIMIT};
+use crate::differences::difference;
 
 /// How the single steps of a program came to their end.
 pub struct Walked {

@@ -1,7 +1,7 @@
 //! The library's kilosteps, through C, beside the model's, for words of every size.
 
+use model::kilosteps::kilosteps as model;
 use ola::kilosteps;
-use oracle::kilosteps::kilosteps as model;
 use oracle::splitmix::SplitMix64;
 
 /// The papers' own numbers, of both.

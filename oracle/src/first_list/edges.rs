@@ -1,12 +1,13 @@
 //! One step with numbers around every limit: of the field, of 32 bits, of the memory's regions and of the clock.
 
-use ola_core::vm::opcodes::OlaOpcode;
+use model::frames::{Frame, Operand};
+use model::numbers::{HEAP_END, STACK_END};
+use model::opcodes::Opcode;
 use ola_executor::CLOCK_LIMIT;
 
 use super::values::{storable, LIMITS};
 use crate::case::{end, frame, Case};
-use crate::domain::{HEAP_END, STACK_END};
-use crate::frames::{Frame, Operand};
+use crate::instructions::opcode_of;
 use crate::splitmix::SplitMix64;
 
 const ABSENT: Operand = Operand::Absent;
@@ -25,18 +26,18 @@ pub fn cases(random: &mut SplitMix64) -> Vec<Case> {
 fn two_operands(random: &mut SplitMix64) -> Vec<Case> {
     let mut cases = vec![];
     for opcode in [
-        OlaOpcode::ADD,
-        OlaOpcode::MUL,
-        OlaOpcode::EQ,
-        OlaOpcode::NEQ,
-        OlaOpcode::AND,
-        OlaOpcode::OR,
-        OlaOpcode::XOR,
-        OlaOpcode::GTE,
+        Opcode::ADD,
+        Opcode::MUL,
+        Opcode::EQ,
+        Opcode::NEQ,
+        Opcode::AND,
+        Opcode::OR,
+        Opcode::XOR,
+        Opcode::GTE,
     ] {
         for _ in 0..20 {
             let (a, b) = (random.pick(&LIMITS), random.pick(&LIMITS));
-            let name = format!("{} of {a:x} and {b:x}", opcode.token());
+            let name = format!("{} of {a:x} and {b:x}", opcode_of(opcode).token());
             let program = [frame(opcode, R1, R2, R0)];
             cases.push(single(name, &program).register(1, a).register(2, b));
         }
@@ -47,15 +48,15 @@ fn two_operands(random: &mut SplitMix64) -> Vec<Case> {
 fn one_operand() -> Vec<Case> {
     let mut cases = vec![];
     for (opcode, op0, op1, dst) in [
-        (OlaOpcode::NOT, ABSENT, R1, R0),
-        (OlaOpcode::MOV, ABSENT, R1, R0),
-        (OlaOpcode::RC, ABSENT, R1, ABSENT),
-        (OlaOpcode::ASSERT, ABSENT, R1, ABSENT),
-        (OlaOpcode::JMP, ABSENT, R1, ABSENT),
-        (OlaOpcode::CJMP, R1, Operand::Immediate(7), ABSENT),
+        (Opcode::NOT, ABSENT, R1, R0),
+        (Opcode::MOV, ABSENT, R1, R0),
+        (Opcode::RC, ABSENT, R1, ABSENT),
+        (Opcode::ASSERT, ABSENT, R1, ABSENT),
+        (Opcode::JMP, ABSENT, R1, ABSENT),
+        (Opcode::CJMP, R1, Operand::Immediate(7), ABSENT),
     ] {
         for number in LIMITS {
-            let name = format!("{} of {number:x}", opcode.token());
+            let name = format!("{} of {number:x}", opcode_of(opcode).token());
             let program = [frame(opcode, op0, op1, dst)];
             cases.push(single(name, &program).register(1, number));
         }
@@ -80,17 +81,17 @@ fn addresses(random: &mut SplitMix64) -> Vec<Case> {
             cases.push(case);
         };
         let zero = Operand::Immediate(0);
-        add(&[frame(OlaOpcode::MLOAD, R1, zero, R0)], "mload");
-        add(&[frame(OlaOpcode::MSTORE, R1, zero, R2)], "mstore");
+        add(&[frame(Opcode::MLOAD, R1, zero, R0)], "mload");
+        add(&[frame(Opcode::MSTORE, R1, zero, R2)], "mstore");
         let seven = Operand::Immediate(7);
-        add(&[frame(OlaOpcode::CALL, ABSENT, seven, ABSENT)], "call");
-        add(&[frame(OlaOpcode::RET, ABSENT, ABSENT, ABSENT)], "ret");
-        add(&[frame(OlaOpcode::SCCALL, R1, zero, ABSENT)], "sccall");
+        add(&[frame(Opcode::CALL, ABSENT, seven, ABSENT)], "call");
+        add(&[frame(Opcode::RET, ABSENT, ABSENT, ABSENT)], "ret");
+        add(&[frame(Opcode::SCCALL, R1, zero, ABSENT)], "sccall");
         for count in 0..3 {
             let length = Operand::Immediate(count);
-            let tload = frame(OlaOpcode::TLOAD, Operand::Immediate(1), length, R1);
+            let tload = frame(Opcode::TLOAD, Operand::Immediate(1), length, R1);
             add(&[tload], &format!("tload of {count}"));
-            let tstore = frame(OlaOpcode::TSTORE, R1, length, ABSENT);
+            let tstore = frame(Opcode::TSTORE, R1, length, ABSENT);
             add(&[tstore], &format!("tstore of {count}"));
         }
     }
@@ -98,8 +99,8 @@ fn addresses(random: &mut SplitMix64) -> Vec<Case> {
 }
 
 fn clock() -> Vec<Case> {
-    let mov = frame(OlaOpcode::MOV, ABSENT, R1, R0);
-    let sccall = frame(OlaOpcode::SCCALL, R0, R0, ABSENT);
+    let mov = frame(Opcode::MOV, ABSENT, R1, R0);
+    let sccall = frame(Opcode::SCCALL, R0, R0, ABSENT);
     let mut cases = vec![];
     for before in 1..4 {
         for budget in 1..4 {

@@ -1,11 +1,12 @@
 //! One step of each compared opcode, with each kind in each operand's place.
 
-use ola_core::vm::opcodes::OlaOpcode;
+use model::frames::{Frame, Operand};
+use model::opcodes::{Opcode, OPCODES};
 
 use super::programs::{natural_frame, random_start};
 use super::values;
 use crate::case::Case;
-use crate::frames::{Frame, Operand, OPCODES};
+use crate::instructions::opcode_of;
 use crate::splitmix::SplitMix64;
 
 pub fn cases(random: &mut SplitMix64) -> Vec<Case> {
@@ -20,23 +21,23 @@ pub fn cases(random: &mut SplitMix64) -> Vec<Case> {
     cases
 }
 
-pub fn compared_opcodes() -> Vec<OlaOpcode> {
+pub fn compared_opcodes() -> Vec<Opcode> {
     OPCODES
         .into_iter()
         .filter(|opcode| {
             !matches!(
                 opcode,
-                OlaOpcode::POSEIDON
-                    | OlaOpcode::SLOAD
-                    | OlaOpcode::SSTORE
-                    | OlaOpcode::SIGCHECK
-                    | OlaOpcode::EVENT
+                Opcode::POSEIDON
+                    | Opcode::SLOAD
+                    | Opcode::SSTORE
+                    | Opcode::SIGCHECK
+                    | Opcode::EVENT
             )
         })
         .collect()
 }
 
-fn case(random: &mut SplitMix64, opcode: OlaOpcode, place: usize, kind: usize) -> Case {
+fn case(random: &mut SplitMix64, opcode: Opcode, place: usize, kind: usize) -> Case {
     let mut frame: Frame = natural_frame(random, opcode);
     let operand = operand_of_kind(random, kind);
     let name = ["op0", "op1", "dst"][place];
@@ -46,7 +47,7 @@ fn case(random: &mut SplitMix64, opcode: OlaOpcode, place: usize, kind: usize) -
         _ => frame.dst = operand,
     }
     Case {
-        name: format!("{} with {name} of kind {kind}", opcode.token()),
+        name: format!("{} with {name} of kind {kind}", opcode_of(opcode).token()),
         program: vec![frame],
         start: random_start(random),
         budget: 1,

@@ -1,14 +1,15 @@
 //! Random programs of a few frames from random starts.
 
-use ola_core::vm::opcodes::OlaOpcode;
+use model::code::length_of;
+use model::frames::{Frame, Operand};
+use model::numbers::{HEAP_END, STACK_END};
+use model::opcodes::Opcode;
+use model::state::State;
 
 use super::operand_kinds::{compared_opcodes, operand_of_kind};
 use super::values::{self, U32_MAX};
 use crate::case::{end, Case};
-use crate::domain::{HEAP_END, STACK_END};
-use crate::frames::{Frame, Operand};
 use crate::splitmix::SplitMix64;
-use crate::state::State;
 
 const COUNT: usize = 1000;
 
@@ -55,10 +56,10 @@ pub fn random_program(random: &mut SplitMix64) -> Vec<Frame> {
 }
 
 /// Opcodes that mostly end a run; drawn less often, so that programs go on for some steps.
-fn often_last(opcode: OlaOpcode) -> bool {
+fn often_last(opcode: Opcode) -> bool {
     matches!(
         opcode,
-        OlaOpcode::END | OlaOpcode::RET | OlaOpcode::SCCALL | OlaOpcode::ASSERT
+        Opcode::END | Opcode::RET | Opcode::SCCALL | Opcode::ASSERT
     )
 }
 
@@ -66,10 +67,7 @@ fn often_last(opcode: OlaOpcode) -> bool {
 fn aim_jumps(random: &mut SplitMix64, program: &mut [Frame]) {
     let starts = starts_of(program);
     for frame in program {
-        let jumps = matches!(
-            frame.opcode,
-            OlaOpcode::JMP | OlaOpcode::CJMP | OlaOpcode::CALL
-        );
+        let jumps = matches!(frame.opcode, Opcode::JMP | Opcode::CJMP | Opcode::CALL);
         // Only an immediate: another kind would move what follows.
         if let (true, Operand::Immediate(target)) = (jumps, &mut frame.op1) {
             if random.percent(90) {
@@ -86,32 +84,32 @@ pub fn starts_of(program: &[Frame]) -> Vec<u64> {
         .iter()
         .map(|frame| {
             let start = pc;
-            pc += frame.instruction().binary_length() as u64;
+            pc += length_of(frame);
             start
         })
         .collect()
 }
 
 /// A frame whose operands have the form that the opcode wants.
-pub fn natural_frame(random: &mut SplitMix64, opcode: OlaOpcode) -> Frame {
+pub fn natural_frame(random: &mut SplitMix64, opcode: Opcode) -> Frame {
     let absent = Operand::Absent;
     let register = Operand::Register(random.below(10) as usize);
     let (op0, op1, dst) = match opcode {
-        OlaOpcode::ADD | OlaOpcode::MUL | OlaOpcode::EQ | OlaOpcode::NEQ => {
+        Opcode::ADD | Opcode::MUL | Opcode::EQ | Opcode::NEQ => {
             (value(random), value(random), register)
         }
-        OlaOpcode::MLOAD | OlaOpcode::MSTORE => (small(random, 16), small(random, 8), register),
-        OlaOpcode::AND | OlaOpcode::OR | OlaOpcode::XOR | OlaOpcode::GTE => {
+        Opcode::MLOAD | Opcode::MSTORE => (small(random, 16), small(random, 8), register),
+        Opcode::AND | Opcode::OR | Opcode::XOR | Opcode::GTE => {
             (small(random, U32_MAX), small(random, U32_MAX), register)
         }
-        OlaOpcode::NOT | OlaOpcode::MOV => (absent, value(random), register),
-        OlaOpcode::RC => (absent, small(random, U32_MAX + 1), absent),
-        OlaOpcode::ASSERT => (absent, register, absent),
-        OlaOpcode::JMP | OlaOpcode::CALL => (absent, small(random, 16), absent),
-        OlaOpcode::CJMP => (small(random, 2), small(random, 16), absent),
-        OlaOpcode::TLOAD => (small(random, 2), small(random, 6), small(random, 16)),
-        OlaOpcode::TSTORE => (small(random, 16), small(random, 5), absent),
-        OlaOpcode::SCCALL => (small(random, 16), small(random, 3), absent),
+        Opcode::NOT | Opcode::MOV => (absent, value(random), register),
+        Opcode::RC => (absent, small(random, U32_MAX + 1), absent),
+        Opcode::ASSERT => (absent, register, absent),
+        Opcode::JMP | Opcode::CALL => (absent, small(random, 16), absent),
+        Opcode::CJMP => (small(random, 2), small(random, 16), absent),
+        Opcode::TLOAD => (small(random, 2), small(random, 6), small(random, 16)),
+        Opcode::TSTORE => (small(random, 16), small(random, 5), absent),
+        Opcode::SCCALL => (small(random, 16), small(random, 3), absent),
         _ => (absent, absent, absent),
     };
     Frame {

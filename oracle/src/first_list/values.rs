@@ -1,6 +1,7 @@
 //! Numbers that tell machines apart.
 
-use crate::domain::{HEAP_END, P, STACK_END};
+use model::numbers::{HEAP_END, P, STACK_END};
+
 use crate::splitmix::SplitMix64;
 
 pub const U32_MAX: u64 = u32::MAX as u64;

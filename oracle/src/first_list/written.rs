@@ -1,12 +1,12 @@
 //! Cases written by hand: those of document 01, and the smallest one of each rule and refusal.
 
-use ola_core::vm::opcodes::OlaOpcode::*;
+use model::frames::{decode, Frame, Operand};
+use model::numbers::{HEAP_END, P, STACK_END};
+use model::opcodes::Opcode::*;
 use ola_executor::CLOCK_LIMIT;
 
 use super::values::U32_MAX;
 use crate::case::{end, frame, Case};
-use crate::domain::{HEAP_END, P, STACK_END};
-use crate::frames::{decode, Frame, Operand};
 
 const NONE: Operand = Operand::Absent;
 const PC: Operand = Operand::Pc;

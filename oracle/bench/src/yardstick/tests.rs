@@ -2,15 +2,15 @@
 
 use std::collections::BTreeSet;
 
+use model::frames::{encode, Frame, Operand};
+use model::lending::{lend, GREATEST};
+use model::numbers::{HEAP_END, P, STACK_END};
+use model::opcodes::{Opcode, OPCODES};
 use ola::{Answer, Lent, Program};
-use ola_core::vm::opcodes::OlaOpcode;
 use oracle::case::Case;
-use oracle::domain::{HEAP_END, P, STACK_END};
 use oracle::first_list;
-use oracle::frames::{encode, Frame, Operand, OPCODES};
 use oracle::splitmix::SplitMix64;
 
-use crate::lent::lent;
 use crate::text::as_text;
 
 const SEED: u64 = 0x9E37_79B9_7F4A_7C15;
@@ -57,7 +57,7 @@ fn on_the_oracle_s_cases() {
         budget,
     } in first_list::cases()
     {
-        assert_alike(&name, &encode(&program), budget, &lent(&start));
+        assert_alike(&name, &encode(&program), budget, &lend(&start, GREATEST));
     }
 }
 
@@ -125,7 +125,7 @@ fn on_random_texts() {
 #[test]
 fn at_the_greatest_program() {
     let jump = Frame {
-        opcode: OlaOpcode::JMP,
+        opcode: Opcode::JMP,
         op0: Operand::Absent,
         op1: Operand::Immediate(1022),
         dst: Operand::Absent,
@@ -176,7 +176,7 @@ fn number(random: &mut SplitMix64) -> u64 {
 
 /// Small buffers, so that their ends are met; some counts, numbers and addresses are refused at entry.
 fn random_start(random: &mut SplitMix64) -> Lent {
-    let mut start = lent(&Default::default());
+    let mut start = lend(&Default::default(), GREATEST);
     for register in &mut start.machine.registers {
         *register = number(random);
     }

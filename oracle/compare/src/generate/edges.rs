@@ -1,10 +1,10 @@
 //! One access to memory around a region's end, by each opcode that has one.
 
-use ola_core::vm::opcodes::OlaOpcode;
+use model::frames::Operand;
+use model::numbers::{HEAP_END, P, STACK_END};
+use model::opcodes::Opcode;
 use oracle::case::{frame, Case};
-use oracle::domain::{HEAP_END, P, STACK_END};
 use oracle::first_list::values::storable;
-use oracle::frames::Operand;
 use oracle::splitmix::SplitMix64;
 
 /// How many cells are present on each side of an end.
@@ -17,17 +17,17 @@ pub fn case(random: &mut SplitMix64) -> Case {
     let length = random.below(NEAR);
     let length_operand = Operand::Immediate(length);
     let (op0, op1, dst, opcode) = match random.below(7) {
-        0 => (address, zero, Operand::Register(0), OlaOpcode::MLOAD),
-        1 => (address, zero, Operand::Register(2), OlaOpcode::MSTORE),
-        2 => (absent, Operand::Immediate(7), absent, OlaOpcode::CALL),
-        3 => (absent, absent, absent, OlaOpcode::RET),
-        4 => (address, zero, absent, OlaOpcode::SCCALL),
-        5 => (address, length_operand, absent, OlaOpcode::TSTORE),
+        0 => (address, zero, Operand::Register(0), Opcode::MLOAD),
+        1 => (address, zero, Operand::Register(2), Opcode::MSTORE),
+        2 => (absent, Operand::Immediate(7), absent, Opcode::CALL),
+        3 => (absent, absent, absent, Opcode::RET),
+        4 => (address, zero, absent, Opcode::SCCALL),
+        5 => (address, length_operand, absent, Opcode::TSTORE),
         _ => (
             Operand::Immediate(1),
             length_operand,
             address,
-            OlaOpcode::TLOAD,
+            Opcode::TLOAD,
         ),
     };
     let end = random.pick(&[0, STACK_END, HEAP_END, P, u64::MAX]);

@@ -7,13 +7,12 @@
 mod items;
 mod start;
 
-use ola_core::vm::opcodes::OlaOpcode;
+use model::code::length_of;
+use model::frames::{Frame, Operand};
+use model::numbers::P;
+use model::opcodes::Opcode;
 use oracle::case::Case;
-use oracle::domain::P;
-use oracle::frames::{Frame, Operand};
 use oracle::splitmix::SplitMix64;
-
-use crate::model::length_of;
 
 const ABSENT: Operand = Operand::Absent;
 const SCRATCH: usize = 5;
@@ -70,12 +69,12 @@ impl Builder<'_> {
             self.counted_loop(0);
         }
         match self.random.below(4) {
-            0 => self.push(OlaOpcode::END, ABSENT, ABSENT, ABSENT),
+            0 => self.push(Opcode::END, ABSENT, ABSENT, ABSENT),
             1 => {
                 self.contract_call();
-                self.push(OlaOpcode::JMP, ABSENT, Operand::Immediate(main), ABSENT);
+                self.push(Opcode::JMP, ABSENT, Operand::Immediate(main), ABSENT);
             }
-            _ => self.push(OlaOpcode::JMP, ABSENT, Operand::Immediate(main), ABSENT),
+            _ => self.push(Opcode::JMP, ABSENT, Operand::Immediate(main), ABSENT),
         }
     }
 
@@ -86,7 +85,7 @@ impl Builder<'_> {
         } else {
             self.items(COUNTERS.len());
         }
-        self.push(OlaOpcode::RET, ABSENT, ABSENT, ABSENT);
+        self.push(Opcode::RET, ABSENT, ABSENT, ABSENT);
         self.functions.push(pc);
     }
 
@@ -95,7 +94,7 @@ impl Builder<'_> {
         let counter = COUNTERS[level];
         let rounds = 2 + self.random.below(if level == 0 { 200 } else { 12 });
         self.push(
-            OlaOpcode::MOV,
+            Opcode::MOV,
             ABSENT,
             Operand::Immediate(rounds),
             Operand::Register(counter),
@@ -104,17 +103,15 @@ impl Builder<'_> {
         self.items(level);
         let (opcode, op0, op1) = if self.random.percent(50) {
             (
-                OlaOpcode::ADD,
+                Opcode::ADD,
                 Operand::Register(counter),
                 Operand::Immediate(P - 1),
             )
         } else {
-            (OlaOpcode::MOV, ABSENT, Operand::Offset(counter, P - 1))
+            (Opcode::MOV, ABSENT, Operand::Offset(counter, P - 1))
         };
         self.push(opcode, op0, op1, Operand::Register(counter));
-        let (opcode, than) = self
-            .random
-            .pick(&[(OlaOpcode::NEQ, 0), (OlaOpcode::GTE, 1)]);
+        let (opcode, than) = self.random.pick(&[(Opcode::NEQ, 0), (Opcode::GTE, 1)]);
         let than = Operand::Immediate(than);
         self.push(
             opcode,
@@ -123,7 +120,7 @@ impl Builder<'_> {
             Operand::Register(SCRATCH),
         );
         let start = Operand::Immediate(start);
-        self.push(OlaOpcode::CJMP, Operand::Register(SCRATCH), start, ABSENT);
+        self.push(Opcode::CJMP, Operand::Register(SCRATCH), start, ABSENT);
     }
 
     /// Some things to do, inside the loop of `level`; past the last level inside none.
@@ -157,7 +154,7 @@ impl Builder<'_> {
     /// A jump that is aimed later: its place among the frames.
     fn jump(&mut self) -> usize {
         let place = self.frames.len();
-        self.push(OlaOpcode::JMP, ABSENT, Operand::Immediate(0), ABSENT);
+        self.push(Opcode::JMP, ABSENT, Operand::Immediate(0), ABSENT);
         place
     }
 
@@ -166,7 +163,7 @@ impl Builder<'_> {
         self.frames[place].op1 = Operand::Immediate(self.pc);
     }
 
-    fn push(&mut self, opcode: OlaOpcode, op0: Operand, op1: Operand, dst: Operand) {
+    fn push(&mut self, opcode: Opcode, op0: Operand, op1: Operand, dst: Operand) {
         let frame = Frame {
             opcode,
             op0,

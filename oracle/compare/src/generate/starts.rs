@@ -1,13 +1,12 @@
 //! States as they are lent: in buffers of some capacity, with marks, and pairs that differ in marked numbers alone.
 
+use model::lending::lend;
+use model::machine::Capacity;
+use model::numbers::P;
+use model::state::State;
 use ola::Lent;
-use oracle::domain::P;
 use oracle::first_list::values;
 use oracle::splitmix::SplitMix64;
-use oracle::state::State;
-
-use crate::lending::lend;
-use crate::model::Capacity;
 
 /// In buffers with little or much free space, and with any PSP.
 pub fn lent_start(random: &mut SplitMix64, state: &State) -> Lent {

@@ -8,13 +8,20 @@ const DEFAULT: &str = "../shared/docs/src";
 pub fn announce(files: &[&str]) {
     println!("cargo:rerun-if-env-changed=OLA_SOURCE");
     let folder = folder();
-    for file in files {
-        let path = folder.join(file);
-        assert!(
-            path.is_file(),
-            "{} is missing: set OLA_SOURCE to the folder that holds executor/ and core/ of the source",
+    let (there, missing): (Vec<PathBuf>, Vec<PathBuf>) = files
+        .iter()
+        .map(|file| folder.join(file))
+        .partition(|path| path.is_file());
+    for path in &missing {
+        println!(
+            "cargo::error={} is missing: set OLA_SOURCE to the folder that holds executor/ and core/ of the source",
             path.display()
         );
+    }
+    if !missing.is_empty() {
+        return;
+    }
+    for path in there {
         println!("cargo:rerun-if-changed={}", path.display());
     }
     let folder = folder.canonicalize().expect("it holds the files");
@@ -24,5 +31,6 @@ pub fn announce(files: &[&str]) {
 /// A relative folder counts from the repository's root.
 fn folder() -> PathBuf {
     let root = Path::new(env!("CARGO_MANIFEST_DIR")).join("../../..");
-    root.join(std::env::var("OLA_SOURCE").unwrap_or(DEFAULT.to_string()))
+    let given = std::env::var("OLA_SOURCE").unwrap_or_default();
+    root.join(if given.is_empty() { DEFAULT } else { &given })
 }

@@ -1,9 +1,9 @@
 //! What a loop's body is made of.
 
-use ola_core::vm::opcodes::OlaOpcode;
-use oracle::domain::{HEAP_END, P, STACK_END};
+use model::frames::Operand;
+use model::numbers::{HEAP_END, P, STACK_END};
+use model::opcodes::{Opcode, OPCODES};
 use oracle::first_list::programs::natural_frame;
-use oracle::frames::{Operand, OPCODES};
 
 use super::start::{field_element, small_number};
 use super::{Builder, ABSENT, FIELD_CELLS, FRAME_POINTER, MOST_TAPE, NEAR, SCRATCH, SMALL_CELLS};
@@ -14,16 +14,16 @@ const COUNTED_CELLS: u64 = 1000;
 impl Builder<'_> {
     pub fn arithmetic(&mut self) {
         let opcode = self.random.pick(&[
-            OlaOpcode::ADD,
-            OlaOpcode::ADD,
-            OlaOpcode::MUL,
-            OlaOpcode::EQ,
-            OlaOpcode::NEQ,
-            OlaOpcode::NOT,
-            OlaOpcode::MOV,
+            Opcode::ADD,
+            Opcode::ADD,
+            Opcode::MUL,
+            Opcode::EQ,
+            Opcode::NEQ,
+            Opcode::NOT,
+            Opcode::MOV,
         ]);
         let op0 = match opcode {
-            OlaOpcode::NOT | OlaOpcode::MOV => ABSENT,
+            Opcode::NOT | Opcode::MOV => ABSENT,
             _ => self.field_operand(),
         };
         let op1 = self.field_operand();
@@ -32,19 +32,16 @@ impl Builder<'_> {
     }
 
     pub fn bitwise(&mut self) {
-        let opcode = self.random.pick(&[
-            OlaOpcode::AND,
-            OlaOpcode::OR,
-            OlaOpcode::XOR,
-            OlaOpcode::GTE,
-        ]);
+        let opcode = self
+            .random
+            .pick(&[Opcode::AND, Opcode::OR, Opcode::XOR, Opcode::GTE]);
         let (op0, op1) = (self.small_operand(), self.small_operand());
         let dst = self.small_register();
         self.push(opcode, op0, op1, dst);
         if self.random.percent(20) {
             // As far as an operand may go, and no further.
             let most = Operand::Immediate(0xFFFF_FFFE);
-            self.push(OlaOpcode::AND, most, dst, dst);
+            self.push(Opcode::AND, most, dst, dst);
         }
     }
 
@@ -52,21 +49,16 @@ impl Builder<'_> {
     pub fn check(&mut self) {
         if self.random.percent(50) {
             let op1 = self.small_operand();
-            self.push(OlaOpcode::RC, ABSENT, op1, ABSENT);
+            self.push(Opcode::RC, ABSENT, op1, ABSENT);
         } else {
             let same = self.field_operand();
-            self.push(OlaOpcode::EQ, same, same, Operand::Register(SCRATCH));
-            self.push(
-                OlaOpcode::ASSERT,
-                ABSENT,
-                Operand::Register(SCRATCH),
-                ABSENT,
-            );
+            self.push(Opcode::EQ, same, same, Operand::Register(SCRATCH));
+            self.push(Opcode::ASSERT, ABSENT, Operand::Register(SCRATCH), ABSENT);
         }
     }
 
     pub fn memory(&mut self) {
-        let opcode = self.random.pick(&[OlaOpcode::MLOAD, OlaOpcode::MSTORE]);
+        let opcode = self.random.pick(&[Opcode::MLOAD, Opcode::MSTORE]);
         if self.random.percent(25) {
             let address = FIELD_CELLS + self.random.below(SMALL_CELLS);
             let dst = self.small_register();
@@ -120,7 +112,7 @@ impl Builder<'_> {
                 let place = Operand::Immediate(self.random.below(6));
                 let frame_pointer = Operand::Register(FRAME_POINTER);
                 // The frame's cells may be absent: stored first.
-                self.push(OlaOpcode::MSTORE, frame_pointer, place, dst);
+                self.push(Opcode::MSTORE, frame_pointer, place, dst);
                 (frame_pointer, place)
             }
         };
@@ -134,15 +126,15 @@ impl Builder<'_> {
             Operand::Immediate(COUNTED_CELLS),
         );
         let (from, to) = (self.field_register(), self.field_register());
-        self.push(OlaOpcode::MSTORE, op0, op1, from);
-        self.push(OlaOpcode::MLOAD, op0, op1, to);
+        self.push(Opcode::MSTORE, op0, op1, from);
+        self.push(Opcode::MLOAD, op0, op1, to);
     }
 
     pub fn tape_load(&mut self) {
         if self.random.percent(50) {
             let position = Operand::Immediate(self.random.below(self.tape_length));
             let cell = Operand::Immediate(self.field_cell());
-            self.push(OlaOpcode::TLOAD, Operand::Immediate(0), position, cell);
+            self.push(Opcode::TLOAD, Operand::Immediate(0), position, cell);
         } else {
             let count = self.random.below(self.tape_length + 1);
             self.index(3);
@@ -153,36 +145,31 @@ impl Builder<'_> {
                 Operand::Offset(SCRATCH, 1),
             ]);
             let count = Operand::Immediate(count);
-            self.push(OlaOpcode::TLOAD, Operand::Immediate(1), count, cell);
+            self.push(Opcode::TLOAD, Operand::Immediate(1), count, cell);
         }
     }
 
     pub fn tape_store(&mut self) {
         let count = Operand::Immediate(self.random.below(4));
         let cell = Operand::Immediate(self.random.below(FIELD_CELLS - 4));
-        self.push(OlaOpcode::TSTORE, cell, count, ABSENT);
+        self.push(Opcode::TSTORE, cell, count, ABSENT);
     }
 
     /// SCCALL; the run goes on after it.
     pub fn contract_call(&mut self) {
         let cell = Operand::Immediate(self.random.below(FIELD_CELLS - 4));
         let delegate = Operand::Immediate(self.random.below(3));
-        self.push(OlaOpcode::SCCALL, cell, delegate, ABSENT);
+        self.push(Opcode::SCCALL, cell, delegate, ABSENT);
     }
 
     /// Over some arithmetic, where a comparison says so.
     pub fn branch(&mut self) {
-        let opcode = self.random.pick(&[OlaOpcode::EQ, OlaOpcode::GTE]);
+        let opcode = self.random.pick(&[Opcode::EQ, Opcode::GTE]);
         let (op0, op1) = (self.small_operand(), self.small_operand());
         self.push(opcode, op0, op1, Operand::Register(SCRATCH));
         let over = self.frames.len();
         let somewhere = Operand::Immediate(0);
-        self.push(
-            OlaOpcode::CJMP,
-            Operand::Register(SCRATCH),
-            somewhere,
-            ABSENT,
-        );
+        self.push(Opcode::CJMP, Operand::Register(SCRATCH), somewhere, ABSENT);
         self.skipped();
         self.aim(over);
     }
@@ -196,8 +183,8 @@ impl Builder<'_> {
         } else {
             let target = self.frames.len();
             let scratch = Operand::Register(SCRATCH);
-            self.push(OlaOpcode::MOV, ABSENT, Operand::Immediate(0), scratch);
-            self.push(OlaOpcode::JMP, ABSENT, scratch, ABSENT);
+            self.push(Opcode::MOV, ABSENT, Operand::Immediate(0), scratch);
+            self.push(Opcode::JMP, ABSENT, scratch, ABSENT);
             self.skipped();
             self.aim(target);
         }
@@ -218,11 +205,11 @@ impl Builder<'_> {
         let size = 2 + self.random.below(6);
         let frame_pointer = Operand::Register(FRAME_POINTER);
         let saved = Operand::Immediate(size - 2);
-        self.push(OlaOpcode::MSTORE, frame_pointer, saved, frame_pointer);
+        self.push(Opcode::MSTORE, frame_pointer, saved, frame_pointer);
         let size = Operand::Immediate(size);
-        self.push(OlaOpcode::ADD, frame_pointer, size, frame_pointer);
+        self.push(Opcode::ADD, frame_pointer, size, frame_pointer);
         let target = Operand::Immediate(function);
-        self.push(OlaOpcode::CALL, ABSENT, target, ABSENT);
+        self.push(Opcode::CALL, ABSENT, target, ABSENT);
     }
 
     /// A frame that may stop the run.
@@ -236,7 +223,7 @@ impl Builder<'_> {
     fn index(&mut self, mask: u64) {
         let from = self.small_register();
         self.push(
-            OlaOpcode::AND,
+            Opcode::AND,
             from,
             Operand::Immediate(mask),
             Operand::Register(SCRATCH),

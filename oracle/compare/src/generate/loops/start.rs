@@ -1,11 +1,11 @@
 //! States from which loops run long.
 
-use oracle::domain::{HEAP_END, P, STACK_END};
+use model::numbers::CLOCK_LIMIT;
+use model::numbers::{HEAP_END, P, STACK_END};
+use model::state::State;
 use oracle::splitmix::SplitMix64;
-use oracle::state::State;
 
 use super::{FIELD_CELLS, FRAME_POINTER, MOST_TAPE, NEAR, SMALL_CELLS};
-use crate::model::CLOCK_LIMIT;
 
 pub fn start(random: &mut SplitMix64) -> State {
     let mut start = State::default();

@@ -1,10 +1,9 @@
 //! A case, as its lines give it.
 
-use ola::{Buffers, Lent, Machine, Marks, Program};
-use oracle::domain::{MOST_CELLS, MOST_OUTPUT, MOST_TAPE};
-use oracle::state::State;
+use ola::{Buffers, Lent, Machine, Marks, Program, MOST_CELLS, MOST_VALUES};
 
-use crate::machine::machine_of;
+/// The greatest capacity that a case may give: one more than is ever in order.
+const MOST_LENT: u64 = MOST_VALUES as u64 + 1;
 
 /// What stands in the places of a lent buffer that no line gives.
 const UNUSED: u64 = 0xEEEE_EEEE_EEEE_EEEE;
@@ -16,7 +15,7 @@ pub struct Case {
     extras: Marks,
     /// The first places of addresses, numbers, marks, tape and output.
     given: [Vec<u64>; 5],
-    capacities: [usize; 5],
+    capacities: [u64; 5],
 }
 
 impl Default for Case {
@@ -24,16 +23,11 @@ impl Default for Case {
         Case {
             words: None,
             text: vec![],
-            machine: machine_of(&State::default()),
+            machine: Machine::default(),
             extras: Marks::default(),
             given: Default::default(),
-            capacities: [
-                MOST_CELLS,
-                MOST_CELLS,
-                MOST_CELLS,
-                MOST_TAPE as usize,
-                MOST_OUTPUT,
-            ],
+            capacities: [MOST_CELLS, MOST_CELLS, MOST_CELLS, MOST_VALUES, MOST_VALUES]
+                .map(|count| count as u64),
         }
     }
 }
@@ -41,32 +35,30 @@ impl Default for Case {
 impl Case {
     /// Takes a line in; None where it is not understood.
     pub fn take(&mut self, line: &[u8]) -> Option<()> {
-        let (word, rest) = match line.iter().position(|byte| *byte == b' ') {
-            Some(space) => (&line[..space], &line[space + 1..]),
-            None => (line, &line[line.len()..]),
-        };
-        if word.first() == Some(&b'l') {
-            self.text.extend(rest);
+        let kind = line.first()?;
+        if *kind == b'l' {
+            self.text.extend(rest_of(line).unwrap_or_default());
             self.text.push(b'\n');
             return Some(());
         }
-        let numbers = numbers_of(rest)?;
+        let numbers = numbers_of(line)?;
         let machine = &mut self.machine;
-        match word.first()? {
+        match kind {
             b'w' => self.words = Some(numbers),
-            b'z' => self
-                .text
-                .resize(self.text.len() + *numbers.first()? as usize, b'0'),
+            b'z' => {
+                let [count] = numbers[..] else { return None };
+                self.text.resize(self.text.len() + count as usize, b'0');
+            }
             b'r' => {
                 let places = machine
                     .registers
                     .iter_mut()
                     .chain([&mut self.extras.registers]);
-                put(numbers, places);
+                put(numbers, places)?;
             }
             b's' => {
                 let places = [&mut machine.pc, &mut machine.clk, &mut machine.psp];
-                put(numbers, places.into_iter().chain(&mut machine.storage_addr));
+                put(numbers, places.into_iter().chain(&mut machine.storage_addr))?;
             }
             b'u' => {
                 let counts = [
@@ -74,12 +66,13 @@ impl Case {
                     &mut machine.tape_count,
                     &mut machine.output_count,
                 ];
-                put(numbers, counts);
+                put(numbers, counts)?;
             }
             b'b' => {
-                for (capacity, number) in self.capacities.iter_mut().zip(numbers) {
-                    *capacity = number as usize;
+                if numbers.iter().any(|number| *number > MOST_LENT) {
+                    return None;
                 }
+                put(numbers, &mut self.capacities)?;
             }
             b'a' => self.given[0] = numbers,
             b'n' => self.given[1] = numbers,
@@ -93,9 +86,10 @@ impl Case {
 
     /// The budget of a line plain or guarded, if it has one; None where the line is not understood.
     pub fn budget_of(&self, line: &[u8]) -> Option<Option<u64>> {
-        match line.iter().position(|byte| *byte == b' ') {
-            None => Some(None),
-            Some(space) => Some(numbers_of(&line[space + 1..])?.first().copied()),
+        match numbers_of(line)?[..] {
+            [] => Some(None),
+            [budget] => Some(Some(budget)),
+            _ => None,
         }
     }
 
@@ -113,7 +107,7 @@ impl Case {
     pub fn lent(&self) -> Lent {
         let buffer = |place: usize| {
             let mut buffer = self.given[place].clone();
-            buffer.resize(self.capacities[place], UNUSED);
+            buffer.resize(self.capacities[place] as usize, UNUSED);
             buffer
         };
         Lent {
@@ -130,16 +124,34 @@ impl Case {
     }
 }
 
-fn put<'a>(numbers: Vec<u64>, places: impl IntoIterator<Item = &'a mut u64>) {
-    for (place, number) in places.into_iter().zip(numbers) {
-        *place = number;
+/// Puts numbers into the first places; None where there are more numbers than places.
+fn put<'a>(numbers: Vec<u64>, places: impl IntoIterator<Item = &'a mut u64>) -> Option<()> {
+    let mut places = places.into_iter();
+    for number in numbers {
+        *places.next()? = number;
+    }
+    Some(())
+}
+
+/// What stands after a line's first space, if it has one.
+fn rest_of(line: &[u8]) -> Option<&[u8]> {
+    let space = line.iter().position(|byte| *byte == b' ')?;
+    Some(&line[space + 1..])
+}
+
+/// The numbers after a line's first word, each after one space.
+fn numbers_of(line: &[u8]) -> Option<Vec<u64>> {
+    match rest_of(line) {
+        None => Some(vec![]),
+        Some(rest) => rest.split(|byte| *byte == b' ').map(number_of).collect(),
     }
 }
 
-fn numbers_of(text: &[u8]) -> Option<Vec<u64>> {
-    let text = std::str::from_utf8(text).ok()?;
-    let numbers = text
-        .split_whitespace()
-        .map(|digits| u64::from_str_radix(digits, 16).ok());
-    numbers.collect()
+/// Without leading zeros.
+fn number_of(digits: &[u8]) -> Option<u64> {
+    let is_digit = |byte: &u8| matches!(byte, b'0'..=b'9' | b'a'..=b'f');
+    if !digits.iter().all(is_digit) || digits.len() > 1 && digits[0] == b'0' {
+        return None;
+    }
+    u64::from_str_radix(std::str::from_utf8(digits).ok()?, 16).ok()
 }

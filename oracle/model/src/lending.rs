@@ -1,11 +1,10 @@
-//! What is lent to the library: made from a state, made into a model, and what must be left in it.
+//! What a call is lent: made from a state, made into a model, and what must be left in it.
 
-use ola::{Buffers, Lent, Marks};
-use oracle::domain::{MOST_CELLS, MOST_OUTPUT, MOST_TAPE};
-use oracle::state::State;
+use ola::{Buffers, Lent, Machine, Marks};
 
-use crate::machine::machine_of;
-use crate::model::{Capacity, Model};
+use crate::machine::{Capacity, Model};
+use crate::numbers::{MOST_CELLS, MOST_VALUES};
+use crate::state::State;
 
 /// What stands in the buffers beyond their counts.
 const UNUSED: u64 = 0xA5A5_A5A5_A5A5_A5A5;
@@ -13,8 +12,8 @@ const UNUSED: u64 = 0xA5A5_A5A5_A5A5_A5A5;
 /// The greatest capacities that are not refused.
 pub const GREATEST: Capacity = Capacity {
     cells: MOST_CELLS,
-    tape: MOST_TAPE as usize,
-    output: MOST_OUTPUT,
+    tape: MOST_VALUES,
+    output: MOST_VALUES,
 };
 
 /// A state without marks, in buffers that it fits in.
@@ -35,6 +34,20 @@ pub fn lend(state: &State, capacity: Capacity) -> Lent {
         machine: machine_of(state),
         extras: Marks::default(),
         buffers,
+    }
+}
+
+/// The record of a state.
+pub fn machine_of(state: &State) -> Machine {
+    Machine {
+        registers: state.registers,
+        pc: state.pc,
+        clk: state.clk,
+        psp: state.psp,
+        storage_addr: state.storage_address,
+        cell_count: state.cells.len() as u64,
+        tape_count: state.tape.len() as u64,
+        output_count: state.output.len() as u64,
     }
 }
 
@@ -61,7 +74,7 @@ pub fn plain_model(lent: &Lent) -> Model {
         registers: machine.registers,
         pc: machine.pc,
         clk: machine.clk,
-        psp_start: machine.psp,
+        psp: machine.psp,
         storage_address: machine.storage_addr,
         cells: addresses.zip(buffers.numbers.iter().copied()).collect(),
         tape: buffers.tape[..machine.tape_count as usize].to_vec(),
@@ -99,41 +112,6 @@ pub fn left_guarded(start: &Lent, model: &Model) -> Lent {
         *mark = model.marked_cells.contains(address) as u64;
     }
     lent
-}
-
-/// The first place where two differ.
-pub fn difference(expected: &Lent, given: &Lent) -> Option<String> {
-    if expected == given {
-        return None;
-    }
-    if expected.machine != given.machine {
-        return Some(format!(
-            "machine: expected {:x?}, given {:x?}",
-            expected.machine, given.machine
-        ));
-    }
-    if expected.extras != given.extras {
-        return Some(format!(
-            "extras: expected {:x?}, given {:x?}",
-            expected.extras, given.extras
-        ));
-    }
-    let (expected, given) = (&expected.buffers, &given.buffers);
-    [
-        ("addresses", &expected.addresses, &given.addresses),
-        ("numbers", &expected.numbers, &given.numbers),
-        ("marks", &expected.marks, &given.marks),
-        ("tape", &expected.tape, &given.tape),
-        ("output", &expected.output, &given.output),
-    ]
-    .into_iter()
-    .find_map(|(name, expected, given)| {
-        let place = (0..expected.len()).find(|place| expected[*place] != given[*place])?;
-        let (expected, given) = (expected[place], given[place]);
-        Some(format!(
-            "{name}[{place}]: expected {expected:x}, given {given:x}"
-        ))
-    })
 }
 
 fn put<'a>(buffer: &mut [u64], values: impl IntoIterator<Item = &'a u64>) {

@@ -1,4 +1,4 @@
-//! The league's unit (document 02, #104), by distances: nothing of it is the library's.
+//! The league's unit, by distances.
 
 use std::cmp::Ordering;
 
@@ -11,7 +11,7 @@ pub fn kilosteps(clk: u64) -> u64 {
     match u128::from(to_below).cmp(&to_above) {
         Ordering::Less => below,
         Ordering::Greater => above,
-        Ordering::Equal if below % 2 == 0 => below,
+        Ordering::Equal if below.is_multiple_of(2) => below,
         Ordering::Equal => above,
     }
 }

@@ -1,6 +1,6 @@
-//! The sinks of document 01, section 'Marks'.
+//! The sinks.
 
-use ola_core::vm::opcodes::OlaOpcode;
+use crate::opcodes::Opcode;
 
 /// Where an instruction has a sink: what of it must not be marked.
 #[derive(Debug, Clone, Copy, PartialEq, Eq, PartialOrd, Ord)]
@@ -17,14 +17,14 @@ pub enum Place {
 
 #[derive(Debug, Clone, Copy, PartialEq, Eq)]
 pub struct Sink {
-    pub opcode: OlaOpcode,
+    pub opcode: Opcode,
     pub place: Place,
 }
 
-/// All sinks, in document 01's order.
+/// All of them, in document 01's order.
 pub fn all_sinks() -> Vec<Sink> {
-    use OlaOpcode::*;
-    let listed: [(&[OlaOpcode], &[Place]); 7] = [
+    use Opcode::*;
+    let listed: [(&[Opcode], &[Place]); 7] = [
         (
             &[MLOAD, MSTORE, AND, OR, XOR, GTE],
             &[Place::Op0, Place::Op1],

@@ -1,30 +1,28 @@
 //! What the calls of a case answered and changed.
 
-use std::fmt::Write;
+use std::io::Write;
 
 use ola::{Answer, Lent};
 
-use super::Machine;
+use crate::Implementation;
 
 const ENTRY_REFUSALS: u64 = 3;
 
 pub struct Transcript {
-    machine: Machine,
     /// What was last written of each part.
     shown: Vec<(&'static str, Vec<u64>)>,
 }
 
 impl Transcript {
-    pub fn new(machine: Machine, start: &Lent) -> Transcript {
+    pub fn new(start: &Lent) -> Transcript {
         Transcript {
-            machine,
             shown: parts(start),
         }
     }
 
-    pub fn write(&mut self, answer: &Answer, now: &Lent, text: &mut String) {
-        let kilosteps = self.machine.kilosteps(now.machine.clk);
-        write_answer(answer, now, kilosteps, text);
+    pub fn write<I: Implementation>(&mut self, answer: &Answer, now: &Lent, output: &mut Vec<u8>) {
+        let kilosteps = I::kilosteps(now.machine.clk);
+        write_answer(answer, now, kilosteps, output);
         if answer.steps != 0 {
             // The answer's line has pc and clk.
             let (_, state) = &mut self.shown[1];
@@ -32,14 +30,16 @@ impl Transcript {
         }
         let now = parts(now);
         for ((name, shown), (_, now)) in self.shown.iter().zip(&now) {
+            // Most parts stay, and whole buffers are quickly compared.
+            if shown == now {
+                continue;
+            }
             let places = shown.iter().zip(now).enumerate();
             let changes: String = places
                 .filter(|(_, (shown, now))| shown != now)
                 .map(|(place, (_, now))| format!(" {place:x}={now:x}"))
                 .collect();
-            if !changes.is_empty() {
-                writeln!(text, "{name}{changes}").unwrap();
-            }
+            writeln!(output, "{name}{changes}").unwrap();
         }
         self.shown = now;
     }
@@ -67,24 +67,24 @@ fn parts(lent: &Lent) -> Vec<(&'static str, Vec<u64>)> {
 }
 
 /// The first line that `solve` would print, and the callee.
-fn write_answer(answer: &Answer, now: &Lent, kilosteps: u64, text: &mut String) {
+fn write_answer(answer: &Answer, now: &Lent, kilosteps: u64, output: &mut Vec<u8>) {
     let is_refused = answer.refused == 1;
     match is_refused {
-        true => write!(text, "{}", answer.number).unwrap(),
-        false => write!(text, "e{}", answer.number).unwrap(),
+        true => write!(output, "{}", answer.number).unwrap(),
+        false => write!(output, "e{}", answer.number).unwrap(),
     }
     if is_refused && answer.number <= ENTRY_REFUSALS {
-        text.push_str(" 0 0 0 0");
+        output.extend(b" 0 0 0 0");
     } else {
         let (pc, clk) = (now.machine.pc, now.machine.clk);
-        write!(text, " {:x} {pc:x} {clk:x} {kilosteps:x}", answer.steps).unwrap();
+        write!(output, " {:x} {pc:x} {clk:x} {kilosteps:x}", answer.steps).unwrap();
     }
     if is_refused && answer.number == 2 {
-        write!(text, " {:x}", answer.frame).unwrap();
+        write!(output, " {:x}", answer.frame).unwrap();
     }
-    text.push('\n');
+    output.push(b'\n');
     if !is_refused && matches!(answer.number, 1 | 2) {
         let [a, b, c, d] = answer.callee;
-        writeln!(text, "callee {a:x} {b:x} {c:x} {d:x}").unwrap();
+        writeln!(output, "callee {a:x} {b:x} {c:x} {d:x}").unwrap();
     }
 }

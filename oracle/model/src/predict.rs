@@ -1,10 +1,11 @@
-//! What a call must answer and leave, by the models of the entry and of the run.
+//! What a call must answer and leave: the entry, then the run.
 
 use ola::{Answer, Lent, Program};
 
+use crate::code::Code;
 use crate::entry::{enter, Refusal, Run};
-use crate::lending::{difference, guarded_model, left_guarded, left_plain, plain_model};
-use crate::model::{Code, Sink};
+use crate::lending::{guarded_model, left_guarded, left_plain, plain_model};
+use crate::sinks::Sink;
 
 pub struct Prediction {
     pub answer: Answer,
@@ -51,21 +52,5 @@ fn refused(refusal: Refusal, start: &Lent) -> Prediction {
         left: start.clone(),
         sink: None,
         refusal: Some(refusal),
-    }
-}
-
-impl Prediction {
-    /// An error says what is not as predicted.
-    pub fn holds(&self, answer: &Answer, left: &Lent) -> Result<(), String> {
-        if *answer != self.answer {
-            return Err(format!(
-                "the model answers {:x?}, the library {answer:x?}",
-                self.answer
-            ));
-        }
-        match difference(&self.left, left) {
-            None => Ok(()),
-            Some(what) => Err(format!("after {answer:x?}: {what}")),
-        }
     }
 }
