@@ -1,2 +1,3 @@
--- Laws for `main`.
+-- Laws for `solve_input` and `print_answer`.
+pub mod Counted
 pub mod Written

@@ -1,26 +1,14 @@
--- `main` keeps within its buffers: what is printed was written; and the lines always fit.
+-- `print_answer` keeps within its buffer: what is printed was written; and the lines always fit.
 use mathlib.Core.Path.{sym}
 use lib.Seq.{length-take-le}
 use Rattle.executor.proofs.Solving.{lines-fit}
 use Rattle.solve.proofs.Written.{written-within}
 use borrow.Author.Needs.{needs}
-use Rattle.solve.proofs.main.Statement.{statement}
-use Rattle.solve.proofs.main.Tie as tie
-
-slice-aggregate-read-full : tie.Need-slice-aggregate-read-full
-slice-aggregate-read-full c = search needs
-
-read-full-requires : tie.Need-read-full-requires
-read-full-requires c κs = search needs
-
-array-share-prefix-input : tie.Need-array-share-prefix-input
-array-share-prefix-input c = search needs
+use Rattle.solve.proofs.print_answer.Statement.{statement}
+use Rattle.solve.proofs.print_answer.Tie as tie
 
 slice-aggregate-solve : tie.Need-slice-aggregate-solve
 slice-aggregate-solve c = search needs
-
-slice-aggregate-solve-2 : tie.Need-slice-aggregate-solve-2
-slice-aggregate-solve-2 c = search needs
 
 solve-requires : tie.Need-solve-requires
 solve-requires c κs = search needs
@@ -31,14 +19,14 @@ enum-known-end c = search needs
 array-share-prefix-lines : tie.Need-array-share-prefix-lines
 array-share-prefix-lines c = written-within _ _ _ _ _ (c .before .end .given .1) (c .before .before .before .before .solve .ensures)
 
-slice-aggregate-write-all : tie.Need-slice-aggregate-write-all
-slice-aggregate-write-all c =
+slice-aggregate-print : tie.Need-slice-aggregate-print
+slice-aggregate-print c =
     sym
     (length-take-le _ _
     (written-within _ _ _ _ _ (c .before .before .end .given .1) (c .before .before .before .before .before .solve .ensures)))
 
-write-all-requires : tie.Need-write-all-requires
-write-all-requires c κs = search needs
+print-requires : tie.Need-print-requires
+print-requires c κs = search needs
 
 enum-told : tie.Need-enum-told
 enum-told c = search needs
@@ -52,20 +40,16 @@ returns c = search needs
 returns-2 : tie.Need-returns-2
 returns-2 c = search needs
 
-pub main-spec : {M : Type 1} → statement M
-main-spec =
+pub print-answer-spec : {M : Type 1} → statement M
+print-answer-spec =
     tie.close
     (tie.spec
-    slice-aggregate-read-full
-    read-full-requires
-    array-share-prefix-input
     slice-aggregate-solve
-    slice-aggregate-solve-2
     solve-requires
     enum-known-end
     array-share-prefix-lines
-    slice-aggregate-write-all
-    write-all-requires
+    slice-aggregate-print
+    print-requires
     enum-told
     unreachable-requires
     returns

@@ -1,0 +1,2 @@
+-- What the contracts of `solve` cite.
+pub mod Reading
