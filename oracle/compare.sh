@@ -1,7 +1,12 @@
 #!/usr/bin/env bash
-# Proves and builds the library, then compares it with the source's `resume`, all parts, with progress. Arguments go to the comparison's
-# command `all`, as --count and --seed. The tables go to standard output.
+# Builds the library where it is not new, then compares it with the source's `resume`, all parts, with progress. Arguments go to the
+# comparison's command `all`, as --count and --seed. The tables go to standard output.
 set -eu
-cd "$(dirname "$0")/.."
-rt staticlib ola >&2
+. "$(dirname "$0")/../scripts/prepare.sh"
+need_cargo "the comparison"
+need_source
+need_library
+stop_where_missing
+
+build_library
 exec cargo run --release --offline --manifest-path oracle/Cargo.toml -p compare -- all "$@"
