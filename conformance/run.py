@@ -15,13 +15,20 @@ def main():
     options = arguments()
     print(f"version {vectors.VERSION}", flush=True)
     passed, failed = 0, 0
-    for name in [options.only] if options.only else vectors.NAMES:
-        good, differences = check_solve(name, options) if options.solve else check(name, options)
+    names = [options.only] if options.only else vectors.NAMES
+    for name in names:
+        cases, expected = chosen(name, options)
+        if not cases:
+            continue
+        good, differences = check_solve(name, cases, expected, options) if options.solve else check(name, cases, expected, options)
         for number, show in enumerate(differences):
             if options.all or failed + number == 0:
                 show()
         print(f"{name}: {good} passed, {len(differences)} failed", flush=True)
         passed, failed = passed + good, failed + len(differences)
+    if not passed and not failed:
+        wanted = "is an input of `solve`" if options.solve else "is there"
+        sys.exit(f"no case of {', '.join(names)} {wanted}" + (f" with {options.match!r} in its name" if options.match else ""))
     print(f"{passed} passed, {failed} failed")
     sys.exit(0 if passed and not failed else 1)
 
@@ -32,6 +39,7 @@ def arguments():
         " them on standard output, as FORMAT.md says. The first difference is shown, step by step."
     )
     parser.add_argument("--only", metavar="NAME", choices=vectors.NAMES, help="one of: " + ", ".join(vectors.NAMES))
+    parser.add_argument("--match", metavar="TEXT", default="", help="play only the cases with TEXT in their name")
     parser.add_argument("--all", action="store_true", help="show every case that fails, not only the first")
     parser.add_argument("--solve", action="store_true", help="the command is a program `solve`: run it on each case that is an input of it")
     parser.add_argument("--seconds", type=int, default=600, metavar="N", help="how long one run of the command may take; by default 600")
@@ -42,11 +50,18 @@ def arguments():
     return options
 
 
-def check(name, options):
+def chosen(name, options):
+    """The cases of a file that are played, and what must be written for each."""
+    pairs = zip(vectors.read_cases(name), vectors.read_answers(name))
+    pairs = [(case, answers) for case, answers in pairs if options.match in case.name()]
+    if options.solve:
+        pairs = [(case, answers) for case, answers in pairs if vectors.solve_input(case) is not None]
+    return [case for case, _ in pairs], [answers for _, answers in pairs]
+
+
+def check(name, cases, expected, options):
     """How many cases of a file pass, and for each difference what shows it."""
-    data, cases = vectors.read_cases(name)
-    expected = vectors.read_answers(name)
-    written, trouble = run(options, data)
+    written, trouble = run(options, vectors.text_of(cases))
     given, before = vectors.parse_answers(written)
     differences = [(lambda what=what: print(f"In {name}: {what}.\n")) for what in trouble]
     if before:
@@ -64,15 +79,11 @@ def check(name, options):
     return good, differences
 
 
-def check_solve(name, options):
-    """The same of a program `solve`, which is run for each case that is an input of it."""
-    _, cases = vectors.read_cases(name)
+def check_solve(name, cases, expected, options):
+    """The same of a program `solve`, which is run for each case."""
     good, differences = 0, []
-    for case, answers in zip(cases, vectors.read_answers(name)):
-        text = vectors.solve_input(case)
-        if text is None:
-            continue
-        written, trouble = run(options, text)
+    for case, answers in zip(cases, expected):
+        written, trouble = run(options, vectors.solve_input(case))
         wanted, found = vectors.solve_output(answers), written.decode("latin-1")
         if (found, trouble) == (wanted, []):
             good += 1
@@ -133,7 +144,7 @@ def printed(text):
 
 def show_case(name, case):
     print(f"The case in line {case.number} of vectors/{name}.cases fails:\n")
-    print("\n".join(readable(line) for line in case.lines))
+    print("\n".join(readable(line) for line in case.lines if line))
 
 
 def title(calls, index):
@@ -150,8 +161,8 @@ def print_lines(call):
 
 
 def readable(line):
-    """A line of what may be anything: control characters are shown as such."""
-    return "".join(character if character.isprintable() else repr(character)[1:-1] for character in line)
+    """A line of what may be any bytes: those that are no printable characters of ASCII are shown as such."""
+    return "".join(each if each.isascii() and each.isprintable() else ascii(each)[1:-1] for each in line)
 
 
 main()

@@ -116,9 +116,39 @@ class Solve(unittest.TestCase):
         self.assertIn("the command ended with status 3", self.passed("e0 5 8 5 0\na\n", 0, ends=3))
 
     def test_no_input_of_solve(self):
-        command = [sys.executable, str(HERE / "run.py"), "--solve", "--only", "replayed", "true"]
-        done = subprocess.run(command, stdout=subprocess.PIPE, check=False, text=True)
-        self.assertEqual((done.returncode, done.stdout.splitlines()[-1]), (1, "0 passed, 0 failed"))
+        self.assertEqual(nothing_played("--solve", "--only", "replayed"), "no case of replayed is an input of `solve`")
+
+
+class Matching(unittest.TestCase):
+    """`--match`, on an implementation that knows the answers of one case only."""
+
+    NAME = "case MOV of another PSP"
+
+    def play(self, text):
+        program = f"import sys; sys.stdin.read(); data = open({str(ANSWERS)!r}).read(); at = data.index({self.NAME!r}); "
+        program += "sys.stdout.write(data[at : data.index('case ', at + 1)])"
+        return play(program, ["--match", text])
+
+    def test_one_case_is_played(self):
+        status, lines = self.play("MOV of another PSP")
+        self.assertEqual((status, lines[-1]), (0, "1 passed, 0 failed"))
+
+    def test_all_that_match_are_played(self):
+        count = sum(line.startswith("case ") and "PSP" in line for line in ANSWERS.read_text().splitlines())
+        self.assertGreater(count, 1)
+        status, lines = self.play("PSP")
+        self.assertEqual((status, lines[-1]), (1, f"1 passed, {count - 1} failed"))
+
+    def test_none_matches(self):
+        said = nothing_played("--only", "worked", "--match", "no such case")
+        self.assertEqual(said, "no case of worked is there with 'no such case' in its name")
+
+
+def nothing_played(*options):
+    """What the runner says where it plays nothing; its status is 1."""
+    command = [sys.executable, str(HERE / "run.py"), *options, "true"]
+    done = subprocess.run(command, stdout=subprocess.PIPE, stderr=subprocess.PIPE, check=False, text=True)
+    return done.stderr.strip() if done.returncode == 1 else f"status {done.returncode}"
 
 
 def run_count(line):

@@ -29,10 +29,13 @@ ANSWER = re.compile(r"(run )?(e[0-3]|[0-9]+)( [0-9a-f]+)+$")
 
 
 class Case(NamedTuple):
-    """A case: the number of its first line in the file, and its lines, comments too."""
+    """A case: the number of its first line in the file, and its lines, comments and empty ones too."""
 
     number: int
     lines: list
+
+    def name(self):
+        return self.lines[0].removeprefix("case ")
 
 
 class Call(NamedTuple):
@@ -50,15 +53,18 @@ class Answers(NamedTuple):
 
 
 def read_cases(name):
-    """The cases' file, and each case."""
-    data = read(FOLDER / f"{name}.cases")
     cases = []
-    for number, line in enumerate(lines_of(data), 1):
+    for number, line in enumerate(lines_of(read(FOLDER / f"{name}.cases")), 1):
         if line.startswith("case "):
             cases.append(Case(number, []))
-        if cases and line:
+        if cases:
             cases[-1].lines.append(line)
-    return data, cases
+    return cases
+
+
+def text_of(cases):
+    """What an implementation reads."""
+    return "".join(line + "\n" for case in cases for line in case.lines).encode("latin-1")
 
 
 def read_answers(name):
@@ -94,7 +100,7 @@ def solve_input(case):
             text += rest + "\n"
         elif word == "zeros":
             text += "0" * int(rest, 16)
-        elif word not in ("case", "plain", "guarded") and not word.startswith("#"):
+        elif word not in ("", "case", "plain", "guarded") and not word.startswith("#"):
             return None
     return text.encode("latin-1") if "plain" in case.lines else None
 
