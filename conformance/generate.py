@@ -3,7 +3,10 @@
 
 import sys
 
-from generator import capacities, clocks, entry, kilosteps, kinds, marks, programs, refusals, regions, steps, values
+from generator import (
+    capacities, clocks, digits, entry, kilosteps, kinds, lengths, malformed, marks, operands, programs, refusals, regions, registers, sizes,
+    starts, steps, texts, values,
+)  # fmt: skip
 from generator.numbers import SplitMix64
 
 SEED = 0x01A57E9
@@ -18,12 +21,20 @@ HEAD = f"""\
 PARTS = [
     ("value", "What each opcode gives.", values.cases),
     ("kind", "Each opcode with each kind of operand in each place.", kinds.cases),
+    ("operand", "Operands by place and kind: from p on, 2^32 more, one kind against another, and marks.", operands.cases),
+    ("register", "Each register in each place, and its mark.", registers.cases),
+    ("length", "Where instructions start: lengths of those that are jumped over, and every bit of pc.", lengths.cases),
+    ("text", "Each opcode, each kind and each register in each place, as text.", texts.cases),
     ("refusal", "Each refusal of a step, and each two that can meet.", refusals.cases),
     ("mark", "Marks: where they go, and each sink.", marks.cases),
     ("region", "The regions' edges.", regions.cases),
     ("capacity", "Buffers just long enough, and one too short; what stands in unused places.", capacities.cases),
+    ("size", "Many instructions, cells and values.", sizes.cases),
     ("clock", "The clock's end and the budget's.", clocks.cases),
     ("kilosteps", "Kilosteps at an exact half and beside it.", kilosteps.cases),
+    ("malformed", "Frames malformed in one thing: selectors by kind and place, values missing, lengths of lines.", malformed.cases),
+    ("digit", "Bytes that are no digits, in a frame's line and in the budget line; each digit in each place.", digits.cases),
+    ("start", "Inputs of `solve`: what it starts with, the greatest sizes, output in its order.", starts.cases),
     ("entry", "What is refused before a step.", entry.cases),
 ]
 DRAWN_PARTS = [("step", "Steps, drawn.", steps.cases), ("program", "Programs, drawn.", programs.cases)]
@@ -31,6 +42,7 @@ DRAWN_PARTS = [("step", "Steps, drawn.", steps.cases), ("program", "Programs, dr
 
 def main():
     random = SplitMix64(SEED)
+    sys.stdout.reconfigure(encoding="latin-1")
     sys.stdout.write(HEAD)
     for part, title, cases in PARTS:
         write(part, title, cases())

@@ -37,6 +37,9 @@ def cases():
         for op1 in (0, 1, 2, 0x100000001):
             words = frame("SCCALL", immediate(10), immediate(op1))
             yield case(f"SCCALL with {op1:x}, free tape: {free}", words, tape_free=free, output_free=0)
+    yield case("TSTORE of 0, all full", frame("TSTORE", immediate(10), immediate(0)), tape_free=0, output_free=0)
+    yield case("TLOAD of 0, all full", frame("TLOAD", immediate(1), immediate(0), immediate(30)), cells_free=0)
+    yield case("SCCALL, the output full", frame("SCCALL", immediate(10), immediate(0)), tape_free=12, output=range(8), output_free=0)
     yield from tape_reads()
     yield from unused_places()
 

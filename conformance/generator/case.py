@@ -2,6 +2,7 @@
 
 from dataclasses import dataclass, field
 
+from .frames import REGISTER_COUNT
 from .numbers import HEAP_END, MOST_CELLS, MOST_VALUES
 
 
@@ -30,11 +31,11 @@ class Case:
     output_capacity: int = MOST_VALUES
     # Lines that take the place of those above, by their first word.
     damage: dict = field(default_factory=dict)
-    # The lines plain and guarded: which run, and its budget, or None where the text has it.
-    runs: list = field(default_factory=lambda: [("plain", 1)])
+    # With each of them there is a plain and a guarded run; with None the text has the budget.
+    budgets: tuple = (1,)
 
     def lines(self):
-        registers = [self.registers.get(number, 0) for number in range(10)]
+        registers = [self.registers.get(number, 0) for number in range(REGISTER_COUNT)]
         addresses = sorted(self.cells)
         marks = [int(address in self.cell_marks) for address in addresses]
         state = [self.pc, self.clk, self.psp, *self.context]
@@ -47,14 +48,11 @@ class Case:
             "buffers": capacities if capacities != [MOST_CELLS] * 3 + [MOST_VALUES] * 2 else [],
             "addresses": addresses,
             "numbers": [self.cells[address] for address in addresses],
-            "marks": marks if self.is_guarded() else [],
+            "marks": marks,
             "tape": self.tape,
             "output": self.output,
         }
         return {**lines, **self.damage}
-
-    def is_guarded(self):
-        return any(run == "guarded" for run, _ in self.runs)
 
     def write(self, part):
         text = f"\ncase {part}: {self.name}\n"
@@ -65,6 +63,7 @@ class Case:
         for word, numbers in self.lines().items():
             if numbers:
                 text += numbers_line(word, numbers)
-        for run, budget in self.runs:
-            text += numbers_line(run, [] if budget is None else [budget])
+        for budget in self.budgets:
+            for run in ("plain", "guarded"):
+                text += numbers_line(run, [] if budget is None else [budget])
         return text

@@ -3,7 +3,7 @@
 from .case import Case
 from .frames import OPCODES, frame, immediate, register
 from .numbers import CLOCK_END, MAX
-from .passing import passing
+from .passing import passing, unread_marks
 
 MOVES = frame("MOV", op1=immediate(5), dst=register(1)) + frame("MOV", op1=immediate(6), dst=register(2))
 LASTS = {
@@ -26,13 +26,25 @@ def cases():
                     MOVES + last,
                     clk=clk,
                     cells={1: 0xA1, 2: 0xA2, 3: 0xA3, 4: 0xA4},
-                    runs=[("plain", budget)],
+                    budgets=(budget,),
                 )
-    for budget in (1 << 32, MAX):
-        yield Case(f"two MOVs, then END, budget {budget:x}", MOVES + LASTS["END"], runs=[("plain", budget)])
+    for budget in (1 << 31, 1 << 32, 1 << 63, MAX):
+        yield Case(f"two MOVs, then END, budget {budget:x}", MOVES + LASTS["END"], budgets=(budget,))
     for opcode in OPCODES:
         for budget in (0, 1, 2):
             case = passing(f"{opcode} at the clock's end, budget {budget}", opcode)
             case.clk = CLOCK_END - 1
-            case.runs = [("plain", budget), ("guarded", budget)]
+            case.budgets = (budget,)
             yield case
+        yield marked_at_the_end(opcode, "registers that it does not read", unread_marks(opcode), set())
+        # MLOAD and RET pass these on.
+        yield marked_at_the_end(opcode, "cells", 0, {22} if opcode in ("TSTORE", "SCCALL") else {2, 22})
+
+
+def marked_at_the_end(opcode, what, register_marks, cell_marks):
+    """The marks of the step of 17 stand with it."""
+    case = passing(f"{opcode} at the clock's end, marked {what}", opcode)
+    case.clk = CLOCK_END - 1
+    case.register_marks = register_marks
+    case.cell_marks = cell_marks
+    return case

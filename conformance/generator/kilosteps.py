@@ -13,23 +13,23 @@ THOUSANDS = sorted(
 
 MOVE = frame("MOV", op1=immediate(5), dst=register(1))
 
-# A last step of each kind: its frame, and the run that shows it.
+# A last step of each kind; register 2 is marked.
 LASTS = {
-    "END": (frame("END"), "plain"),
-    "SCCALL": (frame("SCCALL", immediate(1), immediate(0)), "plain"),
-    "SCCALL that delegates": (frame("SCCALL", immediate(1), immediate(1)), "plain"),
-    "MOV": (MOVE, "plain"),
-    "RC that is refused": (frame("RC", op1=immediate(1 << 32)), "plain"),
-    "RC of a marked number": (frame("RC", op1=register(2)), "guarded"),
+    "END": frame("END"),
+    "SCCALL": frame("SCCALL", immediate(1), immediate(0)),
+    "SCCALL that delegates": frame("SCCALL", immediate(1), immediate(1)),
+    "MOV": MOVE,
+    "RC that is refused": frame("RC", op1=immediate(1 << 32)),
+    "RC of a marked number": frame("RC", op1=register(2)),
 }
 
 
 def cases():
     for thousands in THOUSANDS:
         clk = 1000 * thousands + 498
-        yield Case(f"three steps over the half, from clk {clk:x}", MOVE * 3, clk=clk, runs=[("plain", 3), ("guarded", 3)])
+        yield Case(f"three steps over the half, from clk {clk:x}", MOVE * 3, clk=clk, budgets=(3,))
     for thousands in (0, 1, 2, 3, CLOCK_END // 1000 - 2, CLOCK_END // 1000 - 1):
-        for name, (words, run) in LASTS.items():
+        for name, words in LASTS.items():
             for rest in (499, 500):
                 clk = 1000 * thousands + rest
                 yield Case(
@@ -38,5 +38,5 @@ def cases():
                     register_marks=1 << 2,
                     clk=clk,
                     cells={1: 0xA1, 2: 0xA2, 3: 0xA3, 4: 0xA4},
-                    runs=[(run, 1), (run, 0)],
+                    budgets=(1, 0),
                 )

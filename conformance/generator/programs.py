@@ -80,7 +80,7 @@ def case(random, index):
         tape=[random.below(64) for _ in range(3)],
         context=tuple(random.word() for _ in range(4)),
         clk=random.below(2000),
-        runs=[("plain", BUDGET), ("guarded", BUDGET)],
+        budgets=(BUDGET,),
     )
     case.register_marks = random.pick([0, 1 << random.below(WORKED), random.below(1 << WORKED)])
     case.cell_marks = {address for address in cells if random.one_in(6)}

@@ -6,11 +6,9 @@ A change makes a passing step meet one refusal. Two changes that do not touch th
 from itertools import combinations
 from typing import NamedTuple
 
-from .frames import ABSENT, OPCODES, PC, factor, immediate, offset, register
+from .frames import ABSENT, OPCODES, PC, UNCOVERED, factor, immediate, offset, register
 from .numbers import CLOCK_END, HEAP_END, MAX, P, STACK_END
 from .passing import CELLS, OPERANDS, OUTPUT, TAPE, passing
-
-UNCOVERED = ["POSEIDON", "SLOAD", "SSTORE", "SIGCHECK", "EVENT"]
 
 
 class Change(NamedTuple):
@@ -150,8 +148,9 @@ def apply(opcode, changes):
             case.registers[int(key[1:])] = setting
         elif key not in ("op0", "op1", "dst"):
             setattr(case, key, setting)
-    if any(change.refusal == 18 for change in changes):
-        case.runs = [("guarded", 1)]
+    if len(changes) == 1:
+        # With budget 0 nothing of a step is refused.
+        case.budgets = (1, 0)
     return case
 
 

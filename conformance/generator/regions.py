@@ -2,7 +2,7 @@
 
 from .case import Case
 from .frames import frame, immediate, register
-from .numbers import HEAP_END, REGION_EDGES, STACK_END, WORD
+from .numbers import HEAP_END, P, REGION_EDGES, STACK_END, WORD
 
 # Present: cells 0 to 3, and those beside the two ends where a cell may stand.
 CELLS = {
@@ -30,7 +30,16 @@ def cases():
         for address in addresses:
             registers = {1: address, 3: 0x33, 9: address}
             yield Case(f"{name}, {address:x}", words, registers=registers, cells=dict(CELLS), tape=list(TAPE))
+    yield from over_p()
     yield from long_spans()
+
+
+def over_p():
+    """Sums of p and more are taken in the field."""
+    for opcode in ("MLOAD", "MSTORE"):
+        for a, b in ((P - 1, 1), (1, P - 1), (P - 1, 4), (P - 1, P - 1), (P - STACK_END, STACK_END + 1)):
+            words = frame(opcode, register(1), register(2), register(3))
+            yield Case(f"{opcode}, {a:x} and {b:x}", words, registers={1: a, 2: b, 3: 0x33}, cells=dict(CELLS))
 
 
 def long_spans():

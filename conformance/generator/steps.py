@@ -1,7 +1,7 @@
 """Single steps whose operands, numbers, cells and marks are drawn, most of them at edges."""
 
 from .case import Case
-from .frames import ABSENT, OPCODES, PC, PSP, factor, frame, immediate, offset, register
+from .frames import ABSENT, OPCODES, PC, PSP, REGISTER_COUNT, factor, frame, immediate, offset, register
 from .numbers import CLOCK_END, EDGES, HEAP_END, P, REGION_EDGES, WORD
 
 COUNT = 1200
@@ -44,20 +44,19 @@ def case(random, index):
     case = Case(
         f"{index}, {opcode}",
         frame(opcode, *operands),
-        registers={place: number(random) for place in range(10)},
+        registers={place: number(random) for place in range(REGISTER_COUNT)},
         cells=present,
         tape=[number(random) for _ in range(random.below(6))],
         output=[number(random) for _ in range(random.below(3))],
         context=tuple(random.word() for _ in range(4)),
         psp=random.pick([HEAP_END, number(random)]),
         clk=random.pick([0, random.below(CLOCK_END), CLOCK_END - 1]),
-        runs=[("plain", 1), ("guarded", 1)],
     )
     case.cell_capacity = len(present) + random.pick([0, 1, 2, 40])
     case.tape_capacity = len(case.tape) + random.pick([0, 2, 12, 40])
     case.output_capacity = len(case.output) + random.pick([0, 2, 40])
     case.cell_marks = {address for address, value in present.items() if value < P and random.one_in(4)}
-    below = [place for place in range(10) if case.registers[place] < P]
+    below = [place for place in range(REGISTER_COUNT) if case.registers[place] < P]
     case.register_marks = sum(1 << place for place in below if random.one_in(6))
     return case
 
