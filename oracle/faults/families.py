@@ -1,0 +1,195 @@
+"""Slips of one form each, planted at every opcode, byte, bit or operand in turn."""
+
+from edits import Edit
+from generator.frames import KIND_BITS, KINDS, OPCODES, UNCOVERED
+
+CODE = "oracle/model/src/code.rs"
+DECIDE = "oracle/model/src/decide.rs"
+ENTRY = "oracle/model/src/entry.rs"
+FRAMES = "oracle/model/src/frames.rs"
+
+COVERED = [opcode for opcode in OPCODES if opcode not in UNCOVERED]
+
+# The operands that are read as values.
+TWO_VALUES = "ADD MUL EQ NEQ AND OR XOR GTE MLOAD MSTORE CJMP TLOAD TSTORE SCCALL".split()
+VALUES = (
+    [(opcode, place) for opcode in TWO_VALUES for place in ("op0", "op1")]
+    + [(opcode, "op1") for opcode in "MOV NOT RC JMP CALL".split()]
+    + [("TLOAD", "dst")]
+)
+
+# The operands that are read as registers.
+REGISTERS = [(opcode, "dst") for opcode in "ADD MUL EQ NEQ AND OR XOR GTE MOV NOT MLOAD MSTORE".split()] + [("ASSERT", "op1")]
+
+# How the model writes each kind, with the names of what it carries.
+PATTERNS = [
+    "Operand::Absent",
+    "Operand::Immediate(word)",
+    "Operand::Register(register)",
+    "Operand::Offset(register, word)",
+    "Operand::Factor(register, word)",
+    "Operand::Psp",
+    "Operand::Pc",
+]
+
+# Bytes beside the digits, and as which digit each is read.
+BYTES = {
+    "slash": ("b'/'", "f"),
+    "colon": ("b':'", "a"),
+    "at_sign": ("b'@'", "9"),
+    "backquote": ("b'`'", "9"),
+    "g": ("b'g'", "0"),
+    "capital_g": ("b'G'", "0"),
+    **{f"capital_{digit}": (f"b'{digit.upper()}'", digit) for digit in "abcdef"},
+    "underscore": ("b'_'", "0"),
+    "space": ("b' '", "0"),
+    "plus": ("b'+'", "0"),
+    "minus": ("b'-'", "0"),
+    "x": ("b'x'", "0"),
+    "nul": ("0", "0"),
+    "carriage_return": (r"b'\r'", "0"),
+    "tab": (r"b'\t'", "0"),
+    "byte_255": ("255", "f"),
+    **{f"{digit}_with_bit_7": (f"b'{digit}' | 128", digit) for digit in "09af"},
+}
+
+# Bits of a frame's first word that must be zero.
+ZERO_BITS = [*range(5, 8), *range(17, 32), 62, 63]
+
+SINKS = (
+    [(opcode, place) for opcode in "AND OR XOR GTE MLOAD MSTORE CJMP TLOAD TSTORE SCCALL".split() for place in ("Op0", "Op1")]
+    + [(opcode, "Op1") for opcode in "ASSERT RC JMP CALL".split()]
+    + [("CALL", "R9"), ("RET", "R9"), ("RET", "ReturnPc"), ("TLOAD", "Dst"), ("TSTORE", "Cells"), ("SCCALL", "Cells")]
+)
+
+
+def all_slips():
+    return [*lengths(), *line_ends(), *digits(), *first_words(), *selectors(), *values(), *kinds(), *registers(), *uncovered(), *sinks()]
+
+
+def lengths():
+    """An instruction with a long or a short op1 has a wrong length; all that start after it are elsewhere."""
+    old = "        Opcode::MLOAD | Opcode::MSTORE => 2,"
+    for opcode in COVERED + UNCOVERED:
+        short = 1 if opcode in ("MLOAD", "MSTORE") else 2
+        for name, condition, length in (("long", "has_word(frame.op1)", 1), ("short", "!has_word(frame.op1)", short)):
+            new = f"        Opcode::{opcode} if {condition} => {length},"
+            yield Edit(f"length_of_{opcode}_with_{name}_op1", ["length"], CODE, [old], [new, old])
+    for kind in range(7):
+        length = 1 if kind in (1, 3, 4) else 2
+        pattern = PATTERNS[kind].replace("register, word", "..").replace("word", "_").replace("register", "_")
+        new = f"        opcode if opcode != Opcode::MLOAD && opcode != Opcode::MSTORE && matches!(frame.op1, {pattern}) => {length},"
+        yield Edit(f"length_with_{KINDS[kind]}_op1", ["length"], CODE, [old], [new, old])
+    old = "        _ if has_word(frame.op1) => 2,"
+    for place in ("op0", "dst"):
+        yield Edit(f"length_counts_{place}", ["length"], CODE, [old], [old, f"        _ if has_word(frame.{place}) => 2,"])
+
+
+def line_ends():
+    """A byte beside the line feed ends a line, as for many languages' functions that split a text into lines."""
+    old = "    frames_of_lines(&lines_of(text), None)"
+    for byte in (0x0B, 0x0C, 0x0D, 0x1C, 0x1D, 0x1E, 0x85):
+        text = rf"    let text = text.iter().map(|byte| if *byte == {byte} {{ b'\n' }} else {{ *byte }}).collect::<Vec<u8>>();"
+        new = "    frames_of_lines(&lines_of(&text), None)"
+        yield Edit(f"byte_{byte}_ends_a_line", ["text"], ENTRY, [old], [text, new])
+
+
+def digits():
+    """A byte beside the digits is read as one, in frames' lines or in the budget line alone."""
+    for name, (byte, digit) in BYTES.items():
+        reading = f"line.iter().map(|byte| if *byte == {byte} {{ b'{digit}' }} else {{ *byte }}).collect::<Vec<u8>>()"
+        old = "    let frames = decode(&words_of(line)?).ok()?;"
+        new = f"    let frames = decode(&words_of(&{reading})?).ok()?;"
+        yield Edit(f"{name}_is_a_digit_of_a_frame", ["digits of frames"], ENTRY, [old], [new])
+        old = "    match words_of(line)?[..] {"
+        new = f"    match words_of(&{reading})?[..] {{"
+        yield Edit(f"{name}_is_a_digit_of_the_budget", ["digits of the budget line"], ENTRY, [old], [new])
+
+
+def first_words():
+    """A first word with a bit that must be zero, or an opcode that is none, is well formed."""
+    old = "    if first & !USED_BITS != 0 {"
+    for bit in ZERO_BITS:
+        yield Edit(f"bit_{bit}_is_ignored", ["frames"], FRAMES, [old], [f"    if first & !USED_BITS & !(1 << {bit}) != 0 {{"])
+    old = "        opcode: *OPCODES.get((first & 0x1F) as usize)?,"
+    for number in range(27, 32):
+        new = f"        opcode: *OPCODES.get(if first & 0x1F == {number} {{ 26 }} else {{ (first & 0x1F) as usize }})?,"
+        yield Edit(f"opcode_{number}_is_26", ["frames"], FRAMES, [old], [new])
+
+
+def selectors():
+    """A selector that does not fit its operand's kind is well formed."""
+    register = "    let register = selector.trailing_zeros() as usize;"
+    kind_line = "    let kind = first >> place.kind & 7;"
+    for place, bit in KIND_BITS.items():
+        for kind in range(7):
+            here = f"place.kind == {bit} && kind == {kind}"
+            forms = {"none": "if selector == 0 { 1 } else { selector }", "two": "selector & selector.wrapping_neg()"}
+            for name, read in forms.items() if 2 <= kind <= 4 else [("some", "0")]:
+                selector = f"    let selector = if {here} {{ {read} }} else {{ selector }};"
+                new = [kind_line, selector, register]
+                yield Edit(f"{name}_selected_with_{KINDS[kind]}_{place}", ["frames"], FRAMES, [register, kind_line], new)
+        kind = f"    let kind = if place.kind == {bit} && first >> place.kind & 7 == 7 {{ 0 }} else {{ first >> place.kind & 7 }};"
+        yield Edit(f"kind_7_is_absent_{place}", ["frames"], FRAMES, [kind_line], [kind])
+
+
+def values():
+    """Of an operand with a register and a word a part from p on is reduced, or it is taken for the other kind, or its mark is lost."""
+    number = "self.state.registers[register]"
+    for opcode, place in VALUES:
+        for kind, operation in (("offset", "+"), ("factor", "*")):
+            pattern = PATTERNS[KINDS.index(kind)]
+            other = PATTERNS[7 - KINDS.index(kind)]
+            computed = f"Operand::Immediate((({number} as u128 % P as u128 {operation} word as u128) % P as u128) as u64)"
+            for name, purpose, condition, operand in (
+                ("register_is_reduced", "operands below p", f"{number} >= P && word < P", computed),
+                ("word_is_reduced", "operands below p", "word >= P", pattern.replace("word", "word - P")),
+                ("is_the_other_one", "offset and factor", "true", other),
+                ("loses_the_mark", "marks of operands", "self.register(register).marked && word < P", computed),
+            ):
+                yield changed(f"{opcode}_{place}_{kind}_{name}", purpose, opcode, place, pattern, condition, operand)
+
+
+def kinds():
+    """A value of a kind that is refused is read, or one of a kind that is read is refused."""
+    for opcode, place in VALUES:
+        for name, kind, operand in (
+            ("absent_is_read", "absent", "Operand::Immediate(0)"),
+            ("PC_is_read", "PC", "Operand::Immediate(self.state.pc)"),
+            ("PSP_is_refused", "PSP", "Operand::Pc"),
+        ):
+            yield changed(f"{opcode}_{place}_{name}", "operand kinds", opcode, place, PATTERNS[KINDS.index(kind)], "true", operand)
+
+
+def registers():
+    """A register is found in an operand that is none."""
+    for opcode, place in REGISTERS:
+        for kind, pattern in zip(KINDS, PATTERNS):
+            if kind != "register":
+                read = "Operand::Register(register)" if "register" in pattern else "Operand::Register(0)"
+                pattern = pattern.replace("word", "_")
+                yield changed(f"{opcode}_{place}_{kind}_is_a_register", "operand kinds", opcode, place, pattern, "true", read)
+
+
+def uncovered():
+    """An opcode that is refused passes."""
+    old = "            Opcode::POSEIDON"
+    for opcode in UNCOVERED:
+        yield Edit(f"{opcode}_passes", ["fetching"], DECIDE, [old], [f"            Opcode::{opcode} => Ok(next),", old])
+
+
+def sinks():
+    """A sink is forgotten."""
+    old = "            if number.marked {"
+    for opcode, place in SINKS:
+        new = f"            if number.marked && !(opcode == Opcode::{opcode} && place == Place::{place}) {{"
+        yield Edit(f"{opcode}_{place}_is_no_sink", ["sinks"], DECIDE, [old], [new])
+
+
+def changed(name, purpose, opcode, place, pattern, condition, operand):
+    """An operand of one opcode is taken for another one."""
+    old = "    pub fn decide(&mut self, frame: &Frame) -> Result<Change, Stop> {"
+    arms = f"{pattern} if {condition} => {operand}, other => other"
+    read = f"match frame.{place} {{ {arms} }}"
+    new = f"        let frame = &match frame.opcode {{ Opcode::{opcode} => Frame {{ {place}: {read}, ..*frame }}, _ => *frame }};"
+    return Edit(name, [purpose], DECIDE, [old], [old, new])
