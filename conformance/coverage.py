@@ -9,6 +9,7 @@ from covered import parts, steps
 from covered.report import heading, missing, table
 from generate import DRAWN_PARTS, PARTS
 
+
 def main():
     print("# What the vectors cover\n\nMade by `python3 conformance/coverage.py`. A number counts steps or calls; nothing stands for none.")
     vectors_table()
