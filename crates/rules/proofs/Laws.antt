@@ -1,8 +1,9 @@
--- Laws of tests, results, answers, memory, buffers and entries.
+-- Laws of tests, results, answers, products, memory, buffers and entries.
 pub mod Computed
 pub mod BoolLaws
 pub mod ResultLaws
 pub mod AnswerLaws
+pub mod ProductLaws
 pub mod CellLaws
 pub mod OverlayLaws
 pub mod EntryLaws

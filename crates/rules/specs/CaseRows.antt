@@ -26,45 +26,49 @@ pub record Free : Type 0 where
   pub tape : ℕ
   pub output : ℕ
 
--- R0 to R9 and the word of their marks, the present cells, the tape, clk, and what is free
+-- R0 to R9 and the word of their marks, the present cells, the tape, clk, PSP, and what is free
 pub record Start : Type 0 where
   pub registers : List ℕ
   pub marks : ℕ
   pub cells : List PresentCell
   pub tape : List ℕ
   pub clk : ℕ
+  pub psp : ℕ
   pub free : Free
 
-abbrev from : List ℕ → ℕ → List PresentCell → List ℕ → ℕ → Free → Start
-from rs ts cs vs n f = record { registers = rs; marks = ts; cells = cs; tape = vs; clk = n; free = f }
+abbrev from : List ℕ → ℕ → List PresentCell → List ℕ → ℕ → ℕ → Free → Start
+from rs ts cs vs n psp f = record { registers = rs; marks = ts; cells = cs; tape = vs; clk = n; psp = psp; free = f }
 
--- R0 is 7, so that a result of 0 shows; all else is 0 and empty
+-- R0 is 7, so that a result of 0 shows; all else is 0 and empty, but for PSP
 abbrev pub start : Start
-start = from (7 ∷ replicate 9 0) 0 [] [] 0 (record { cells = 4; tape = 12; output = 4 })
+start = from (7 ∷ replicate 9 0) 0 [] [] 0 defaultPsp (record { cells = 4; tape = 12; output = 4 })
 
 -- register r holds n, unmarked or marked
 abbrev pub withR : ℕ → ℕ → Start → Start
-withR r n s = from (set s.registers r n) s.marks s.cells s.tape s.clk s.free
+withR r n s = from (set s.registers r n) s.marks s.cells s.tape s.clk s.psp s.free
 
 abbrev pub withMarkedR : ℕ → ℕ → Start → Start
-withMarkedR r n s = from (set s.registers r n) (s.marks + 2 ^ r) s.cells s.tape s.clk s.free
+withMarkedR r n s = from (set s.registers r n) (s.marks + 2 ^ r) s.cells s.tape s.clk s.psp s.free
 
 -- one more present cell, before those of s: its address and number; unmarked or marked
 abbrev pub withCell : ℕ → ℕ → Start → Start
-withCell a n s = from s.registers s.marks (record { address = a; number = n; mark = 0 } ∷ s.cells) s.tape s.clk s.free
+withCell a n s = from s.registers s.marks (record { address = a; number = n; mark = 0 } ∷ s.cells) s.tape s.clk s.psp s.free
 
 abbrev pub withMarkedCell : ℕ → ℕ → Start → Start
-withMarkedCell a n s = from s.registers s.marks (record { address = a; number = n; mark = 1 } ∷ s.cells) s.tape s.clk s.free
+withMarkedCell a n s = from s.registers s.marks (record { address = a; number = n; mark = 1 } ∷ s.cells) s.tape s.clk s.psp s.free
 
 abbrev pub withTape : List ℕ → Start → Start
-withTape vs s = from s.registers s.marks s.cells vs s.clk s.free
+withTape vs s = from s.registers s.marks s.cells vs s.clk s.psp s.free
 
 abbrev pub withClk : ℕ → Start → Start
-withClk n s = from s.registers s.marks s.cells s.tape n s.free
+withClk n s = from s.registers s.marks s.cells s.tape n s.psp s.free
+
+abbrev pub withPsp : ℕ → Start → Start
+withPsp n s = from s.registers s.marks s.cells s.tape s.clk n s.free
 
 -- so many more cells, tape values and output values fit
 abbrev pub withFree : ℕ → ℕ → ℕ → Start → Start
-withFree c t o s = from s.registers s.marks s.cells s.tape s.clk (record { cells = c; tape = t; output = o })
+withFree c t o s = from s.registers s.marks s.cells s.tape s.clk s.psp (record { cells = c; tape = t; output = o })
 
 -- nothing more fits
 abbrev pub full : Start → Start
@@ -83,7 +87,7 @@ guardedStartSnapshot s =
           registers = s .registers;
           pc = 0;
           clk = s .clk;
-          psp = defaultPsp;
+          psp = s .psp;
           «storage_addr» = 0x11 ∷ 0x22 ∷ 0x33 ∷ 0x44 ∷ [];
           «cell_count» = length (s .cells);
           «tape_count» = length (s .tape);

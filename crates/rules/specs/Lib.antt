@@ -17,8 +17,8 @@ pub mod Entry
 pub mod Calls
 pub mod Handed
 pub mod Solve
--- statements about them: what every call promises (demand 1), the frame of refusal 2, kilosteps, marks and sinks, demand 3, the plain map
--- (demand 2), soundness, runs in parts, TLOAD's test of its count, how much `solve` prints
+-- statements about them: what every call promises (demand 1), the frame of refusal 2, kilosteps, marks and sinks, blanking with zero,
+-- demand 3, the plain map (demand 2), soundness, runs in parts, TLOAD's test of its count, how much `solve` prints
 pub mod EveryCall
 pub mod MalformedFrames
 pub mod NearestThousand
@@ -27,6 +27,7 @@ pub mod SinkRules
 pub mod LoadedRegisters
 pub mod GuardedSteps
 pub mod GuardedRuns
+pub mod Blanking
 pub mod NonInterference
 pub mod Relations
 pub mod MapAgreement

@@ -5,7 +5,7 @@ use mathlib.Core.List.{List, [], _∷_, _++_}
 use Rattle.rules.specs.declared.OlaOpcode.{OlaOpcode}
 use Rattle.rules.specs.declared.OlaOpcode.the-variants as O
 use Rattle.rules.specs.declared.OlaOperand.{OlaOperand}
-use Rattle.rules.specs.declared.OlaOperand.the-variants.{Absent, Register, RegisterWithOffset}
+use Rattle.rules.specs.declared.OlaOperand.the-variants.{Absent, Register, RegisterWithOffset, RegisterWithFactor}
 use Rattle.rules.specs.Encoding.{frame, imm, absent6, offset7}
 use Rattle.rules.specs.CaseRows.{Start, start, withR, withMarkedR, withCell, withMarkedCell, withTape, withClk, fourCells, full, Row, row, Hold, plain, guarded, refusedBy, nothing, Pair, pair, inGuardedStep, sinkBefore, rowsOf, forEach}
 
@@ -32,6 +32,21 @@ markedOffset7 = RegisterWithOffset 1 0xFFFFFFFF00000001
 abbrev markedOffset : OlaOperand
 markedOffset = RegisterWithOffset 1 0
 
+-- likewise a factor of p, and a factor of 1
+abbrev markedFactor7 : OlaOperand
+markedFactor7 = RegisterWithFactor 1 0xFFFFFFFF00000001
+
+abbrev markedFactor : OlaOperand
+markedFactor = RegisterWithFactor 1 1
+
+-- factor 0: unmarked (document 02, #108)
+abbrev zeroFactor : OlaOperand
+zeroFactor = RegisterWithFactor 1 0
+
+-- R1 marked beside an unmarked R2 that is p
+abbrev r2Large : Start
+r2Large = withR 2 0xFFFFFFFF00000001 (markedR1 0)
+
 -- Operands before 18
 
 -- op0 and op1 are sinks: op1's 6 and op1's 7 before op0's 18, op0's 6 and op0's 7 before op1's 18, and the 7 of an operand before its 18
@@ -43,6 +58,11 @@ bothSinks o =
     ∷ inGuardedStep (markedR1 0) 7 (frame o offset7 r1 r0) 18 (frame o (imm 0) r1 r0)
     ∷ inGuardedStep (markedR1 0) 7 (frame o markedOffset7 (imm 0) r0) 18 (frame o markedOffset (imm 0) r0)
     ∷ inGuardedStep (markedR1 0) 7 (frame o (imm 0) markedOffset7 r0) 18 (frame o (imm 0) markedOffset r0)
+    ∷ inGuardedStep (markedR1 0) 7 (frame o markedFactor7 (imm 0) r0) 18 (frame o markedFactor (imm 0) r0)
+    ∷ inGuardedStep (markedR1 0) 7 (frame o (imm 0) markedFactor7 r0) 18 (frame o (imm 0) markedFactor r0)
+    -- beside an operand with factor 0: the 7 of its register, if that is p, before the other's 18
+    ∷ inGuardedStep r2Large 7 (frame o (RegisterWithFactor 2 0) r1 r0) 18 (frame o zeroFactor r1 r0)
+    ∷ inGuardedStep r2Large 7 (frame o r1 (RegisterWithFactor 2 0) r0) 18 (frame o r1 zeroFactor r0)
     ∷ []
 
 -- dst's 6 before op0's 18
@@ -73,6 +93,9 @@ operandsBeforeSinks =
     ∷ inGuardedStep (markedR1 0) 7 (frame O.Cjmp markedOffset7 (imm 0) Absent) 18 (frame O.Cjmp markedOffset (imm 0) Absent)
     ∷ inGuardedStep (markedR1 0) 8 (frame O.Cjmp (imm 2) r1 Absent) 18 (frame O.Cjmp (imm 0) r1 Absent)
     ∷ inGuardedStep (markedR1 0) 7 (frame O.Cjmp (imm 0) markedOffset7 Absent) 18 (frame O.Cjmp (imm 0) markedOffset Absent)
+    -- CJMP: op0's 7 of a factor p before its 18; op1's 18 beside op0 with factor 0, after op1's 7
+    ∷ inGuardedStep (markedR1 0) 7 (frame O.Cjmp markedFactor7 (imm 0) Absent) 18 (frame O.Cjmp markedFactor (imm 0) Absent)
+    ∷ inGuardedStep (markedR1 0) 7 (frame O.Cjmp zeroFactor markedFactor7 Absent) 18 (frame O.Cjmp zeroFactor markedFactor Absent)
     ∷ [])))
 
 abbrev pub OperandsBeforeSinksHold : Type 0

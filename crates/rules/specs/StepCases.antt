@@ -1,5 +1,5 @@
--- What each opcode gives, how far it moves pc, what it marks, and what `solve` prints of refusals. Document 01, 'The step', the end of
--- 'Frames', 'Marks' and the end of 'Cases'. The theorems stand in proofs/Cases/AllCases.antt.
+-- What each opcode gives, how far it moves pc, what it marks, what it blanks, and what `solve` prints of refusals. Document 01, 'The step',
+-- the end of 'Frames', 'Marks' and the end of 'Cases'; document 02, #108. The theorems stand in proofs/Cases/AllCases.antt.
 use Prim.Native.Nat.{ℕ}
 use mathlib.Core.Path.{_≡_}
 use mathlib.Core.List.{List, [], _∷_, _++_}
@@ -12,7 +12,32 @@ use Rattle.rules.specs.Entry.{Snapshot, GuardedSnapshot, usedTape, usedO
 use Rattle.rules.specs.Calls.{plainBudgetText}
 use Rattle.rules.specs.Solve.{solve, printed}
 use Rattle.rules.specs.Encoding.{frame, imm, bytes}
-use Rattle.rules.specs.CaseRows.{Start, start, withR, withMarkedR, withCell, withMarkedCell, withTape, withClk, fourCells, startSnapshot, Row, row, Hold, plain, guarded, e0, e3, refusedBy, registerAt, cellAt, clkOf, markedRegisterAt, markedCellAt}
+use Rattle.rules.specs.CaseRows.{
+  Start,
+  start,
+  withR,
+  withMarkedR,
+  withCell,
+  withMarkedCell,
+  withTape,
+  withClk,
+  withPsp,
+  fourCells,
+  startSnapshot,
+  Row,
+  row,
+  Hold,
+  plain,
+  guarded,
+  e0,
+  e3,
+  refusedBy,
+  registerAt,
+  cellAt,
+  clkOf,
+  markedRegisterAt,
+  markedCellAt,
+}
 use Rattle.rules.specs.RefusalOrder.{endLines}
 
 abbrev r0 : OlaOperand
@@ -160,10 +185,123 @@ lastMarks =
     ∷ atClock (frame O.Mov Absent r1 r0) (6 ∷ 1 ∷ 6 ∷ 1 ∷ 9 ∷ 1 ∷ [])
     ∷ atClock (frame O.Mov Absent (imm 5) r1) (7 ∷ 0 ∷ 5 ∷ 0 ∷ 9 ∷ 1 ∷ [])
     ∷ atClock (frame O.Mstore (imm 0) (imm 4) r0) (7 ∷ 0 ∷ 6 ∷ 1 ∷ 7 ∷ 0 ∷ [])
+    ∷ atClock (frame O.Mul r1 (imm 0) r1) (7 ∷ 0 ∷ 0 ∷ 0 ∷ 9 ∷ 1 ∷ [])
     ∷ []
 
 abbrev pub MarkResultsHold : Type 0
 MarkResultsHold = Hold markResults × Hold lastMarks
+
+-- Blanking with zero
+
+-- op0 and op1 to R0: its number and its mark
+abbrev results0 : OlaOpcode → OlaOperand → OlaOperand → Start → List ℕ → Row
+results0 o a b s about = leaves (frame o a b r0) s (markedRegisterAt 0) about
+
+-- R1 is a marked 0
+abbrev markedZero : Start
+markedZero = withMarkedR 1 0 start
+
+-- R2 is an unmarked p - 1 beside the marked R1
+abbrev besideLast : Start
+besideLast = withR 2 0xFFFFFFFF00000000 marked1
+
+-- MUL to R0, which stays; R2 is an unmarked p beside the marked R1
+abbrev refused7 : OlaOperand → OlaOperand → Row
+refused7 a b = row (guarded 1 (frame O.Mul a b r0) (withR 2 0xFFFFFFFF00000001 marked1)) (markedRegisterAt 0) (refusedBy 7) 0 (7 ∷ 0 ∷ [])
+
+unfoldable pub zeroProducts : List Row
+zeroProducts =
+    -- MUL with an unmarked 0 on either side: an immediate, a register, PSP, an offset operand, a factor operand
+    results0 O.Mul r1 (imm 0) marked1 (0 ∷ 0 ∷ [])
+    ∷ results0 O.Mul (imm 0) r1 marked1 (0 ∷ 0 ∷ [])
+    ∷ results0 O.Mul r1 (Register 2) marked1 (0 ∷ 0 ∷ [])
+    ∷ results0 O.Mul (Register 2) r1 marked1 (0 ∷ 0 ∷ [])
+    ∷ results0 O.Mul r1 Psp (withPsp 0 marked1) (0 ∷ 0 ∷ [])
+    ∷ results0 O.Mul Psp r1 (withPsp 0 marked1) (0 ∷ 0 ∷ [])
+    ∷ results0 O.Mul r1 (RegisterWithOffset 2 1) besideLast (0 ∷ 0 ∷ [])
+    ∷ results0 O.Mul (RegisterWithOffset 2 1) r1 besideLast (0 ∷ 0 ∷ [])
+    ∷ results0 O.Mul r1 (RegisterWithFactor 2 5) marked1 (0 ∷ 0 ∷ [])
+    ∷ results0 O.Mul (RegisterWithFactor 2 5) r1 marked1 (0 ∷ 0 ∷ [])
+    ∷ results0 O.Mul r1 (RegisterWithFactor 1 0) marked1 (0 ∷ 0 ∷ [])
+    ∷ results0 O.Mul (RegisterWithFactor 1 0) r1 marked1 (0 ∷ 0 ∷ [])
+    -- a marked 0 beside an unmarked 0
+    ∷ results0 O.Mul r1 (imm 0) markedZero (0 ∷ 0 ∷ [])
+    ∷ results0 O.Mul (imm 0) r1 markedZero (0 ∷ 0 ∷ [])
+    -- to the marked register itself
+    ∷ leaves (frame O.Mul r1 (imm 0) r1) marked1 (markedRegisterAt 1) (0 ∷ 0 ∷ [])
+    -- a marked 0 does not blank: times 5, times a marked 6, times itself
+    ∷ results0 O.Mul r1 (imm 5) markedZero (0 ∷ 1 ∷ [])
+    ∷ results0 O.Mul (imm 5) r1 markedZero (0 ∷ 1 ∷ [])
+    ∷ results0 O.Mul r1 (Register 2) (withMarkedR 2 6 markedZero) (0 ∷ 1 ∷ [])
+    ∷ results0 O.Mul (Register 2) r1 (withMarkedR 2 6 markedZero) (0 ∷ 1 ∷ [])
+    ∷ results0 O.Mul r1 r1 markedZero (0 ∷ 1 ∷ [])
+    -- a marked operand that is 0 by its offset does not either: p - 1 and 1
+    ∷ results0 O.Mul (RegisterWithOffset 1 1) (imm 5) (withMarkedR 1 0xFFFFFFFF00000000 start) (0 ∷ 1 ∷ [])
+    -- a factor operand with factor 0, and with others
+    ∷ results0 O.Mov Absent (RegisterWithFactor 1 0) marked1 (0 ∷ 0 ∷ [])
+    ∷ results0 O.Add (RegisterWithFactor 1 0) (imm 5) marked1 (5 ∷ 0 ∷ [])
+    ∷ results0 O.Eq (RegisterWithFactor 1 0) (imm 0) marked1 (1 ∷ 0 ∷ [])
+    ∷ results0 O.Mov Absent (RegisterWithFactor 1 1) marked1 (6 ∷ 1 ∷ [])
+    ∷ results0 O.Mov Absent (RegisterWithFactor 1 1) markedZero (0 ∷ 1 ∷ [])
+    -- a 0 blanks nothing in another place: ADD, EQ, NEQ, an offset
+    ∷ results0 O.Add r1 (imm 0) marked1 (6 ∷ 1 ∷ [])
+    ∷ results0 O.Add (imm 0) r1 marked1 (6 ∷ 1 ∷ [])
+    ∷ results0 O.Eq r1 (imm 0) marked1 (0 ∷ 1 ∷ [])
+    ∷ results0 O.Neq (imm 0) r1 marked1 (1 ∷ 1 ∷ [])
+    ∷ results0 O.Mov Absent (RegisterWithOffset 1 0) marked1 (6 ∷ 1 ∷ [])
+    -- 7 goes first: a factor of p, a register that is p times factor 0 or times 0
+    ∷ refused7 (RegisterWithFactor 1 0xFFFFFFFF00000001) (imm 0)
+    ∷ refused7 (imm 0) (RegisterWithFactor 1 0xFFFFFFFF00000001)
+    ∷ refused7 (RegisterWithFactor 2 0) r1
+    ∷ refused7 r1 (RegisterWithFactor 2 0)
+    ∷ refused7 (Register 2) (imm 0)
+    ∷ refused7 (imm 0) (Register 2)
+    ∷ []
+
+-- the marked R1 times factor 0
+abbrev zero1 : OlaOperand
+zero1 = RegisterWithFactor 1 0
+
+-- a step to this pc
+abbrev comesTo : List ℕ → Start → ℕ → Row
+comesTo words s pc = leaves words s (λ g. pcOf (g .plain)) (pc ∷ [])
+
+-- to the callee in cells 0 to 3
+abbrev callsFrom : List ℕ → Row
+callsFrom words = row (guarded 1 words (fourCells marked1)) (markedRegisterAt 1) (outcome 1 (5 ∷ 6 ∷ 7 ∷ 8 ∷ [])) 1 (6 ∷ 1 ∷ [])
+
+-- R1 times factor 0 is no sink: each listed use of an operand goes on
+unfoldable pub zeroFactors : List Row
+zeroFactors =
+    results0 O.Mload zero1 (imm 0) (withCell 0 5 marked1) (5 ∷ 0 ∷ [])
+    ∷ results0 O.Mload (imm 0) zero1 (withCell 0 5 marked1) (5 ∷ 0 ∷ [])
+    ∷ leaves (frame O.Mstore zero1 (imm 3) r0) marked1 (markedCellAt 3) (7 ∷ 0 ∷ [])
+    ∷ leaves (frame O.Mstore (imm 3) zero1 r0) marked1 (markedCellAt 3) (7 ∷ 0 ∷ [])
+    ∷ results0 O.And zero1 (imm 5) marked1 (0 ∷ 0 ∷ [])
+    ∷ results0 O.And (imm 5) zero1 marked1 (0 ∷ 0 ∷ [])
+    ∷ results0 O.Or zero1 (imm 5) marked1 (5 ∷ 0 ∷ [])
+    ∷ results0 O.Or (imm 5) zero1 marked1 (5 ∷ 0 ∷ [])
+    ∷ results0 O.Xor zero1 (imm 5) marked1 (5 ∷ 0 ∷ [])
+    ∷ results0 O.Xor (imm 5) zero1 marked1 (5 ∷ 0 ∷ [])
+    ∷ results0 O.Gte zero1 (imm 5) marked1 (0 ∷ 0 ∷ [])
+    ∷ results0 O.Gte (imm 5) zero1 marked1 (1 ∷ 0 ∷ [])
+    ∷ comesTo (frame O.Rc Absent zero1 Absent) marked1 2
+    ∷ comesTo (frame O.Jmp Absent zero1 Absent) marked1 0
+    ∷ comesTo (frame O.Cjmp zero1 (imm 9) Absent) marked1 2
+    ∷ comesTo (frame O.Cjmp (imm 1) zero1 Absent) marked1 0
+    ∷ comesTo (frame O.Call Absent zero1 Absent) (withR 9 1 marked1) 0
+    -- TLOAD of position 0, of the last 0 and of the last 1; TSTORE of no cell and of cells 0 and 1
+    ∷ leaves (frame O.Tload zero1 (imm 0) (imm 3)) (withTape (8 ∷ []) marked1) (markedCellAt 3) (8 ∷ 0 ∷ [])
+    ∷ comesTo (frame O.Tload (imm 1) zero1 (imm 3)) (withTape (8 ∷ []) marked1) 2
+    ∷ leaves (frame O.Tload (imm 1) (imm 1) zero1) (withTape (8 ∷ []) marked1) (markedCellAt 0) (8 ∷ 0 ∷ [])
+    ∷ comesTo (frame O.Tstore (imm 0) zero1 Absent) (fourCells marked1) 2
+    ∷ leaves (frame O.Tstore zero1 (imm 2) Absent) (fourCells marked1) (λ g. usedOutput (g .plain)) (5 ∷ 6 ∷ [])
+    ∷ callsFrom (frame O.Sccall zero1 (imm 2) Absent)
+    ∷ callsFrom (frame O.Sccall (imm 0) zero1 Absent)
+    ∷ []
+
+abbrev pub ZeroProductsHold : Type 0
+ZeroProductsHold = Hold zeroProducts × Hold zeroFactors
 
 -- `solve` of refusals: the number in decimal; number 2's frame; zeros at entry
 

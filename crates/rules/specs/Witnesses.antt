@@ -4,7 +4,8 @@ use mathlib.Core.Path.{_≡_}
 use mathlib.Core.List.{List, [], _∷_, _++_}
 use lib.ListN.{replicate}
 use Rattle.rules.specs.declared.OlaOpcode.the-variants as O
-use Rattle.rules.specs.declared.OlaOperand.the-variants.{Absent, Immediate, Register}
+use Rattle.rules.specs.declared.OlaOperand.{OlaOperand}
+use Rattle.rules.specs.declared.OlaOperand.the-variants.{Absent, Immediate, Register, RegisterWithFactor}
 use Rattle.rules.specs.Numbers.{defaultPsp}
 use Rattle.rules.specs.Frames.{loadWords}
 use Rattle.rules.specs.Text.{loadText}
@@ -24,9 +25,10 @@ pub record Witness (call : GuardedSnapshot → Called GuardedSnapshot) (g h : Gu
   pub answers : call g .answer ≡ answer
   pub stepped : call g .steps ≡ steps
 
--- both end, and leave these numbers, each with its mark, at the places that are looked at
-pub record Carried (call : GuardedSnapshot → Called GuardedSnapshot) (g h : GuardedSnapshot) (steps : ℕ) (look : GuardedSnapshot → List ℕ) (ofG ofH : List ℕ) : Type 0 where
-  pub ends : Witness call g h (outcome 0 []) steps
+-- and what they leave at the places that are looked at: numbers, each with its mark
+pub record Carried (call : GuardedSnapshot → Called GuardedSnapshot) (g h : GuardedSnapshot) (answer : Meaning) (steps : ℕ)
+    (look : GuardedSnapshot → List ℕ) (ofG ofH : List ℕ) : Type 0 where
+  pub agree : Witness call g h answer steps
   pub first : look (call g .left) ≡ ofG
   pub second : look (call h .left) ≡ ofH
 
@@ -54,7 +56,8 @@ marksCarried g = markedRegisterAt 2 g ++ (markedRegisterAt 9 g ++ markedCellAt 3
 
 abbrev pub MarksCarried : Type 0
 MarksCarried =
-    Carried (guardedWords carries 10) (secret 7) (secret 8) 4 marksCarried (7 ∷ 1 ∷ 7 ∷ 1 ∷ 7 ∷ 1 ∷ []) (8 ∷ 1 ∷ 8 ∷ 1 ∷ 8 ∷ 1 ∷ [])
+    Carried (guardedWords carries 10) (secret 7) (secret 8) (outcome 0 []) 4 marksCarried
+    (7 ∷ 1 ∷ 7 ∷ 1 ∷ 7 ∷ 1 ∷ []) (8 ∷ 1 ∷ 8 ∷ 1 ∷ 8 ∷ 1 ∷ [])
 
 -- A marked cell, of a program as bare words and as text
 
@@ -85,7 +88,8 @@ showsLine = bytes "000000000000091700000000000000030000000000000001\n"
 -- a call of `passesOn` from a 7 and from an 8: R1, R2, cell 3 and cell 6 afterwards, each with its mark
 abbrev pub CellCarried : (GuardedSnapshot → Called GuardedSnapshot) → Type 0
 CellCarried call =
-    Carried call (secretCell 7) (secretCell 8) 4 (λ g. markedRegisterAt 1 g ++ (markedRegisterAt 2 g ++ (markedCellAt 3 g ++ markedCellAt 6 g)))
+    Carried call (secretCell 7) (secretCell 8) (outcome 0 []) 4
+    (λ g. markedRegisterAt 1 g ++ (markedRegisterAt 2 g ++ (markedCellAt 3 g ++ markedCellAt 6 g)))
     (7 ∷ 1 ∷ 8 ∷ 1 ∷ 7 ∷ 1 ∷ 8 ∷ 1 ∷ []) (8 ∷ 1 ∷ 9 ∷ 1 ∷ 8 ∷ 1 ∷ 9 ∷ 1 ∷ [])
 
 pub record CellsCarried : Type 0 where
@@ -132,9 +136,62 @@ pub record Beyond : Type 0 where
   pub addresses : guardedWords stores 1 (beyond 3) .left .plain .addresses ≡ 6 ∷ 3 ∷ []
   pub marks : guardedWords stores 1 (beyond 3) .left .marks ≡ 1 ∷ 3 ∷ []
 
--- a mark that is carried on, one that would show, and what stands beyond the counts
+-- Blanking with zero (document 02, #108)
+
+-- R1 is marked and holds n; R2 is 9 and R3 is 5, and cell 0 holds 4
+unfoldable pub secretFactor : ℕ → GuardedSnapshot
+secretFactor n = guardedStartSnapshot (withR 2 9 (withR 3 5 (withCell 0 4 (withMarkedR 1 n start))))
+
+-- R1 times 0 to R2, and R1 times R3 to R4
+abbrev blanks : List ℕ
+blanks = frame O.Mul (Register 1) (Immediate 0) (Register 2)
+
+abbrev multiplies : List ℕ
+multiplies = frame O.Mul (Register 1) (Register 3) (Register 4)
+
+-- a jump by an operand, which goes on where that is 0
+abbrev jumpsBy : OlaOperand → List ℕ
+jumpsBy a = frame O.Cjmp a (Immediate 0) Absent
+
+abbrev end : List ℕ
+end = frame O.End Absent Absent Absent
+
+unfoldable pub blanksAndJumps : List ℕ
+blanksAndJumps = blanks ++ (jumpsBy (Register 2) ++ end)
+
+unfoldable pub multipliesAndJumps : List ℕ
+multipliesAndJumps = multiplies ++ (jumpsBy (Register 4) ++ end)
+
+-- both, and the second product to cell 6
+unfoldable pub blanksAndMultiplies : List ℕ
+blanksAndMultiplies =
+    blanks ++ (multiplies ++ (jumpsBy (Register 2) ++ (frame O.Mstore (Immediate 0) (Immediate 6) (Register 4) ++ end)))
+
+-- R1 times factor 0 says whether to jump, and from which cell R2 is loaded
+unfoldable pub usesFactorZero : List ℕ
+usesFactorZero =
+    jumpsBy (RegisterWithFactor 1 0) ++ (frame O.Mload (RegisterWithFactor 1 0) (Immediate 0) (Register 2) ++ end)
+
+-- from a marked 0 and from a marked 7
+abbrev FromZeroAndSeven : List ℕ → Meaning → ℕ → (GuardedSnapshot → List ℕ) → List ℕ → List ℕ → Type 0
+FromZeroAndSeven words answer steps look ofZero ofSeven =
+    Carried (guardedWords words 10) (secretFactor 0) (secretFactor 7) answer steps look ofZero ofSeven
+
+pub record BlankingWitnesses : Type 0 where
+  -- the product with an immediate 0 is an unmarked 0, and a jump by it goes on
+  pub blanked : FromZeroAndSeven blanksAndJumps (outcome 0 []) 3 (markedRegisterAt 2) (0 ∷ 0 ∷ []) (0 ∷ 0 ∷ [])
+  -- a marked 0 does not blank: its product with 5 is a marked 0, and a jump by it is refused as one by a marked 35 is
+  pub markedZero : FromZeroAndSeven multipliesAndJumps (refusal 18 []) 1 (markedRegisterAt 4) (0 ∷ 1 ∷ []) (35 ∷ 1 ∷ [])
+  -- both products, to the end: R2, R4 and cell 6
+  pub both : FromZeroAndSeven blanksAndMultiplies (outcome 0 []) 5 (λ g. markedRegisterAt 2 g ++ (markedRegisterAt 4 g ++ markedCellAt 6 g))
+      (0 ∷ 0 ∷ 0 ∷ 1 ∷ 0 ∷ 1 ∷ []) (0 ∷ 0 ∷ 35 ∷ 1 ∷ 35 ∷ 1 ∷ [])
+  -- a factor operand with factor 0 is no sink
+  pub factorZero : FromZeroAndSeven usesFactorZero (outcome 0 []) 3 (markedRegisterAt 2) (4 ∷ 0 ∷ []) (4 ∷ 0 ∷ [])
+
+-- a mark that is carried on, one that would show, what stands beyond the counts, and blanking with zero
 pub record Witnesses : Type 0 where
   pub carried : MarksCarried
   pub cellsCarried : CellsCarried
   pub leaked : Witness (guardedWords leaks 2) (secret 7) (secret 8) (refusal 18 []) 1
   pub beyond : Beyond
+  pub blanking : BlankingWitnesses

@@ -7,7 +7,19 @@ use Rattle.rules.specs.StoreOrder.{tapeOrder, TapeOrderHolds, storeOrder
 use Rattle.rules.specs.SinkOrder.{operandsBeforeSinks, OperandsBeforeSinksHold, sinksBeforeRest, SinksBeforeRestHold, readSinks, ReadSinksHold, sinkAtClock, SinkAtClockHolds}
 use Rattle.rules.specs.EntryRefusals.{wordRefusals, WordRefusalsHold, TextRefusalsHold, stateRefusals, markRefusals, StateRefusalsHold}
 use Rattle.rules.specs.StepRefusals.{operandRefusals, OperandRefusalsHold, memoryRefusals, MemoryRefusalsHold, outcomes, OutcomesHold}
-use Rattle.rules.specs.StepCases.{results, lengths, ResultsHold, markResults, lastMarks, MarkResultsHold, listingWithoutEnd, PrintsHold}
+use Rattle.rules.specs.StepCases.{
+  results,
+  lengths,
+  ResultsHold,
+  markResults,
+  lastMarks,
+  MarkResultsHold,
+  zeroProducts,
+  zeroFactors,
+  ZeroProductsHold,
+  listingWithoutEnd,
+  PrintsHold,
+}
 use Rattle.rules.proofs.Cases.Unfolding.{calling, printing}
 use Rattle.rules.proofs.Cases.LongTexts.{malformed-and-512, malformed-and-511, malformed-510-malformed, budget-and-512, budget-and-513}
 
@@ -122,6 +134,11 @@ resultsHold = (refl, refl)
 pub markResultsHold : MarkResultsHold
 unfolding calling markResults lastMarks
 markResultsHold = (refl, refl)
+
+-- blanking with zero
+pub zeroProductsHold : ZeroProductsHold
+unfolding calling zeroProducts zeroFactors
+zeroProductsHold = (refl, refl)
 
 pub printsHold : PrintsHold
 unfolding printing endLines listingWithoutEnd

@@ -30,6 +30,10 @@ pub pass-bind : {A B : Type 0} {r : Result A} {a : A} (k : A → Result B) {b : 
 unfolding bind
 pass-bind k e h = rw e h
 
+pub bind-step : {A B : Type 0} {r : Result A} {a : A} (k : A → Result B) → r ≡ pass a → bind r k ≡ k a
+unfolding bind
+bind-step k e = rw e
+
 pub after-step : {A B : Type 0} {r : Result A} {a : A} (k : A → GuardedResult B) → r ≡ pass a → after r k ≡ k a
 unfolding after
 after-step k e = rw e

@@ -2,7 +2,8 @@
 use Prim.Native.Nat.{ℕ, _+_, _-_, _≤_, _<_}
 use mathlib.Core.Path.{_≡_, refl, sym, ap, subst, _∙_}
 use mathlib.Core.Logic.{_↔_}
-use mathlib.Core.Bool.{Bool, true, false, _||_}
+use mathlib.Core.Bool as B
+use mathlib.Core.Bool.{Bool, true, false, _&&_, _||_}
 use mathlib.Core.List.{List}
 use native.Mathlib.Omega.{arith}
 use lib.Dec.{leb, ltb, eqb}
@@ -21,7 +22,7 @@ use Rattle.rules.specs.Cells.{put, numberCells, markCells}
 use Rattle.rules.specs.Opcodes.{Class, classOf}
 use Rattle.rules.specs.Operands.{target, wantsOf, valueOf, operand, Operands, operands}
 use Rattle.rules.specs.Step.{State, r9, tapeValues}
-use Rattle.rules.specs.Guarded.{registerMark, operandMark, MarkState, cellMark, cleanMany, marksAfter}
+use Rattle.rules.specs.Guarded.{registerMark, operandMark, isUnmarkedZero, productMark, MarkState, cellMark, cleanMany, marksAfter}
 use Rattle.rules.specs.LoadedRegisters.{RegisterInRange, RegistersInRange}
 use Rattle.rules.specs.MarkRules.{
   Place,
@@ -35,6 +36,7 @@ use Rattle.rules.specs.MarkRules.{
   of-register,
   of-offset,
   of-factor,
+  of-factor-0,
   FromBoth,
   FromOne,
   add,
@@ -55,8 +57,12 @@ use Rattle.rules.specs.MarkRules.{
   mstore,
   call,
   tload,
+  Blanked,
+  by-op0,
+  by-op1,
   MarkedAfter,
   result-of-both,
+  result-blanked,
   result-of-one,
   mstore-passes,
   mload-passes,
@@ -65,7 +71,8 @@ use Rattle.rules.specs.MarkRules.{
   return-pc,
   kept,
 }
-use Rattle.rules.proofs.Laws.BoolLaws.{or-equal}
+use Rattle.rules.proofs.Laws.BoolLaws.{false-true, or-equal, or-first, or-second, or-case}
+use Rattle.rules.proofs.Laws.ProductLaws.{unmarked-zero, zero-unmarked}
 use Rattle.rules.proofs.Laws.ResultLaws.{refuse-pass, pass-injective, bind-pass}
 use Rattle.rules.proofs.MarksAndSinks.WrittenPlaces.{
   stored-mark,
@@ -119,7 +126,20 @@ operand-mark t of-immediate = refl
 operand-mark t of-psp = refl
 operand-mark t of-register = refl
 operand-mark t of-offset = refl
-operand-mark t of-factor = refl
+operand-mark t (of-factor {r} {w} h) = go (eqb w 0) refl
+  where
+    go : (z : Bool) → eqb w 0 ≡ z → (B.not z && registerMark (t .registers) r) ≡ registerMark (t .registers) r
+    go true e = absurd (h (eqb-true w 0 e))
+    go false e = refl
+operand-mark t of-factor-0 = refl
+
+pub factor-marked : (t : MarkState markCells) (r w : ℕ)
+    → OperandMarked (markingOf t) (RegisterWithFactor r w) (operandMark (t .registers) (RegisterWithFactor r w))
+factor-marked t r w = go (eqb w 0) refl
+  where
+    go : (z : Bool) → eqb w 0 ≡ z → OperandMarked (markingOf t) (RegisterWithFactor r w) (B.not z && registerMark (t .registers) r)
+    go true e = subst (λ w. OperandMarked (markingOf t) (RegisterWithFactor r w) false) (sym (eqb-true w 0 e)) of-factor-0
+    go false e = of-factor (eqb-false w 0 e)
 
 -- an operand that gives a number has a mark
 pub value-marked : (t : MarkState markCells) (psp : ℕ) (registers : List ℕ) (o : OlaOperand) {v : ℕ} → valueOf psp registers o ≡ pass v
@@ -129,7 +149,7 @@ value-marked t psp registers Absent h = refuse-pass h
 value-marked t psp registers (Immediate w) h = of-immediate
 value-marked t psp registers (Register r) h = of-register
 value-marked t psp registers (RegisterWithOffset r w) h = of-offset
-value-marked t psp registers (RegisterWithFactor r w) h = of-factor
+value-marked t psp registers (RegisterWithFactor r w) h = factor-marked t r w
 value-marked t psp registers Psp h = of-psp
 value-marked t psp registers Pc h = refuse-pass h
 
@@ -165,8 +185,20 @@ module _ (t : MarkState markCells) (i : Instruction) (s : State numberCells) (o 
   abbrev Rules : OlaOpcode → Place → Bool → Type 0
   Rules c x b = MarkedAfter (markingOf t) i s o c x b
 
-  after-both : {c : OlaOpcode} → FromBoth c
-      → marksAfter numberCells markCells t (classOf c) i s o ≡ record { registers = set (t .registers) (o .dst) (mark0 || mark1); cells = t .cells }
+  -- the mark of a result of both operands
+  abbrev bothMark : {c : OlaOpcode} → FromBoth c → Bool
+  bothMark add = mark0 || mark1
+  bothMark mul = productMark mark0 (o .op0) mark1 (o .op1)
+  bothMark eq = mark0 || mark1
+  bothMark neq = mark0 || mark1
+  bothMark and = mark0 || mark1
+  bothMark or = mark0 || mark1
+  bothMark xor = mark0 || mark1
+  bothMark gte = mark0 || mark1
+
+  after-both : {c : OlaOpcode} (f : FromBoth c)
+      → marksAfter numberCells markCells t (classOf c) i s o
+      ≡ record { registers = set (t .registers) (o .dst) (bothMark f); cells = t .cells }
   unfolding marksAfter classOf
   after-both add = refl
   after-both mul = refl
@@ -246,12 +278,56 @@ module _ (t : MarkState markCells) (i : Instruction) (s : State numberCells) (o 
       go true l false u = outside-tape a (λ m n. let k = ltb-false a (o .dst + loaded) u in omega arith)
       go false l c u = outside-tape a (λ m n. let k = leb-false (o .dst) a l in omega arith)
 
+  -- A result of both operands
+
+  abbrev anyBlank : Bool
+  anyBlank = isUnmarkedZero mark0 (o .op0) || isUnmarkedZero mark1 (o .op1)
+
+  blanked-zero : Blanked (markingOf t) i o O.Mul → anyBlank ≡ true
+  blanked-zero (by-op0 p e) = or-first _ (zero-unmarked (operand-mark t p) e)
+  blanked-zero (by-op1 p e) = or-second (isUnmarkedZero mark0 (o .op0)) (zero-unmarked (operand-mark t p) e)
+
+  zero-blanked : {a b : Bool} → OperandMarked (markingOf t) (i .op0) a → OperandMarked (markingOf t) (i .op1) b → anyBlank ≡ true
+      → Blanked (markingOf t) i o O.Mul
+  zero-blanked p q e = or-case (isUnmarkedZero mark0 (o .op0)) _ e by0 by1
+    where
+      by0 : isUnmarkedZero mark0 (o .op0) ≡ true → Blanked (markingOf t) i o O.Mul
+      by0 e =
+          let z = unmarked-zero mark0 (o .op0) e in
+          by-op0 (subst (OperandMarked (markingOf t) (i .op0)) (sym (operand-mark t p) ∙ z .0) p) (z .1)
+
+      by1 : isUnmarkedZero mark1 (o .op1) ≡ true → Blanked (markingOf t) i o O.Mul
+      by1 e =
+          let z = unmarked-zero mark1 (o .op1) e in
+          by-op1 (subst (OperandMarked (markingOf t) (i .op1)) (sym (operand-mark t q) ∙ z .0) q) (z .1)
+
+  product-follows : OperandMarked (markingOf t) (i .op0) mark0 → OperandMarked (markingOf t) (i .op1) mark1
+      → Rules O.Mul (register (o .dst)) (productMark mark0 (o .op0) mark1 (o .op1))
+  product-follows p q = go anyBlank refl
+    where
+      go : (z : Bool) → anyBlank ≡ z → Rules O.Mul (register (o .dst)) (B.not z && (mark0 || mark1))
+      go true e = result-blanked (zero-blanked p q e)
+      go false e = result-of-both mul (λ h. false-true (sym e ∙ blanked-zero h)) p q
+
+  result-follows : {c : OlaOpcode} (f : FromBoth c)
+      → OperandMarked (markingOf t) (i .op0) mark0
+      → OperandMarked (markingOf t) (i .op1) mark1
+      → Rules c (register (o .dst)) (bothMark f)
+  result-follows add p q = result-of-both add (λ h. elim h [ ]) p q
+  result-follows mul p q = product-follows p q
+  result-follows eq p q = result-of-both eq (λ h. elim h [ ]) p q
+  result-follows neq p q = result-of-both neq (λ h. elim h [ ]) p q
+  result-follows and p q = result-of-both and (λ h. elim h [ ]) p q
+  result-follows or p q = result-of-both or (λ h. elim h [ ]) p q
+  result-follows xor p q = result-of-both xor (λ h. elim h [ ]) p q
+  result-follows gte p q = result-of-both gte (λ h. elim h [ ]) p q
+
   -- There: what is computed is what the rules give
 
   computed-follows : {c : OlaOpcode} → Proper t i o c → (x : Place) → Rules c x (after c x)
   unfolding marksAfter classOf
   computed-follows (proper-both f p q l) (register r) =
-      rw (after-both f) (at-register (o .dst) (mark0 || mark1) l (result-of-both f p q) (λ _. both-register s o f) r)
+      rw (after-both f) (at-register (o .dst) (bothMark f) l (result-follows f p q) (λ _. both-register s o f) r)
   computed-follows (proper-both f p q l) (cell a) = rw (after-both f) (kept (both-cell s o f))
   computed-follows (proper-one f q l) (register r) =
       rw (after-one f) (at-register (o .dst) mark1 l (result-of-one f q) (λ _. one-register s o f) r)
@@ -328,10 +404,35 @@ module _ (t : MarkState markCells) (i : Instruction) (s : State numberCells) (o 
   ret-bound (proper-ret l) = l
   ret-bound (proper-nothing n) = elim n [ ]
 
+  unblanked-mark : {c : OlaOpcode} {a b : Bool} (f : FromBoth c) → (Blanked (markingOf t) i o c → ⊥)
+      → OperandMarked (markingOf t) (i .op0) a → OperandMarked (markingOf t) (i .op1) b → bothMark f ≡ (a || b)
+  unblanked-mark add h p q = or-equal (operand-mark t p) (operand-mark t q)
+  unblanked-mark {a = a} {b} mul h p q = go anyBlank refl ∙ or-equal (operand-mark t p) (operand-mark t q)
+    where
+      go : (z : Bool) → anyBlank ≡ z → (B.not z && (mark0 || mark1)) ≡ (mark0 || mark1)
+      go true e = absurd (h (zero-blanked p q e))
+      go false e = refl
+  unblanked-mark eq h p q = or-equal (operand-mark t p) (operand-mark t q)
+  unblanked-mark neq h p q = or-equal (operand-mark t p) (operand-mark t q)
+  unblanked-mark and h p q = or-equal (operand-mark t p) (operand-mark t q)
+  unblanked-mark or h p q = or-equal (operand-mark t p) (operand-mark t q)
+  unblanked-mark xor h p q = or-equal (operand-mark t p) (operand-mark t q)
+  unblanked-mark gte h p q = or-equal (operand-mark t p) (operand-mark t q)
+
+  product-blanked : Proper t i o O.Mul → Blanked (markingOf t) i o O.Mul → after O.Mul (register (o .dst)) ≡ false
+  product-blanked h b =
+      rw (after-both mul)
+      (getD-set-same (t .registers) (o .dst) _ false (both-bound h mul) ∙ ap (λ z. B.not z && (mark0 || mark1)) (blanked-zero b))
+
+  blanked-mark : {c : OlaOpcode} → Proper t i o c → Blanked (markingOf t) i o c → after c (register (o .dst)) ≡ false
+  blanked-mark h (by-op0 p e) = product-blanked h (by-op0 p e)
+  blanked-mark h (by-op1 p e) = product-blanked h (by-op1 p e)
+
   follows-computed : {c : OlaOpcode} {x : Place} {b : Bool} → Proper t i o c → Rules c x b → after c x ≡ b
   unfolding marksAfter classOf
-  follows-computed h (result-of-both f p q) =
-      rw (after-both f) (getD-set-same (t .registers) (o .dst) _ false (both-bound h f) ∙ or-equal (operand-mark t p) (operand-mark t q))
+  follows-computed h (result-of-both f n p q) =
+      rw (after-both f) (getD-set-same (t .registers) (o .dst) _ false (both-bound h f) ∙ unblanked-mark f n p q)
+  follows-computed h (result-blanked b) = blanked-mark h b
   follows-computed h (result-of-one f q) = rw (after-one f) (getD-set-same (t .registers) (o .dst) _ false (one-bound h f) ∙ operand-mark t q)
   follows-computed h mstore-passes = stored-mark (t .cells) (fieldAdd (o .op0) (o .op1)) _
   follows-computed h mload-passes = getD-set-same (t .registers) (o .dst) _ false (mload-bound h)
@@ -342,7 +443,7 @@ module _ (t : MarkState markCells) (i : Instruction) (s : State numberCells) (o 
 
 -- Operands that were read make an opcode proper
 
-operands-inverse : (psp : ℕ) (registers : List ℕ) (c : Class) (i : Instruction) {o : Operands} → operands psp registers c i ≡ pass o
+pub operands-inverse : (psp : ℕ) (registers : List ℕ) (c : Class) (i : Instruction) {o : Operands} → operands psp registers c i ≡ pass o
     → (operand psp registers (wantsOf c .op0) (i .op0) ≡ pass (o .op0))
     × (operand psp registers (wantsOf c .op1) (i .op1) ≡ pass (o .op1))
     × (operand psp registers (wantsOf c .dst) (i .dst) ≡ pass (o .dst))
@@ -354,7 +455,8 @@ operands-inverse psp registers c i {o} h =
     let e : _≡_ {A = Operands} (record { op0 = a .0; op1 = b .0; dst = d .0 }) o = pass-injective (d .2) in
     (a .1 ∙ ap (λ (q : Operands). pass (q .op0)) e, b .1 ∙ ap (λ (q : Operands). pass (q .op1)) e, d .1 ∙ ap (λ (q : Operands). pass (q .dst)) e)
 
-target-in-range : (psp : ℕ) (registers : List ℕ) (x : OlaOperand) {r : ℕ} → operand psp registers target x ≡ pass r → RegisterInRange x → r < 10
+pub target-in-range : (psp : ℕ) (registers : List ℕ) (x : OlaOperand) {r : ℕ} → operand psp registers target x ≡ pass r → RegisterInRange x
+    → r < 10
 unfolding operand
 target-in-range psp registers Absent h l = refuse-pass h
 target-in-range psp registers (Immediate w) h l = refuse-pass h

@@ -16,7 +16,7 @@ use Rattle.rules.specs.Opcodes.{classOf}
 use Rattle.rules.specs.Operands.{Operands}
 use Rattle.rules.specs.Step.{Environment, State, Next, operate, capacity}
 use Rattle.rules.specs.Guarded.{operandMark, sinksOf, operandSink, MarkState, cellMark, spanMark, readSink, marksAfter, GuardedState, GuardedNext, guardedRest, guardedStep}
-use Rattle.rules.specs.MarkRules.{markingOf, OperandMarked, of-register, of-offset, of-factor}
+use Rattle.rules.specs.MarkRules.{markingOf, OperandMarked, of-register, of-offset}
 use Rattle.rules.specs.SinkRules.{
   mload,
   mstore,
@@ -56,7 +56,7 @@ use Rattle.rules.specs.SinkRules.{
 }
 use Rattle.rules.proofs.Laws.BoolLaws.{false-true, or-first, or-second, or-case}
 use Rattle.rules.proofs.Laws.ResultLaws.{require-pass, bind-pass, pass-require, pass-bind, after-step, after-sink, guard-sink, sink-guard}
-use Rattle.rules.proofs.MarksAndSinks.MarksFollow.{operand-mark}
+use Rattle.rules.proofs.MarksAndSinks.MarksFollow.{operand-mark, factor-marked}
 
 -- Tests and operands
 
@@ -68,7 +68,7 @@ marked-operand t Absent h = never h
 marked-operand t (Immediate w) h = never h
 marked-operand t (Register r) h = subst (OperandMarked (markingOf t) (Register r)) h of-register
 marked-operand t (RegisterWithOffset r w) h = subst (OperandMarked (markingOf t) (RegisterWithOffset r w)) h of-offset
-marked-operand t (RegisterWithFactor r w) h = subst (OperandMarked (markingOf t) (RegisterWithFactor r w)) h of-factor
+marked-operand t (RegisterWithFactor r w) h = subst (OperandMarked (markingOf t) (RegisterWithFactor r w)) h (factor-marked t r w)
 marked-operand t Psp h = never h
 marked-operand t Pc h = never h
 

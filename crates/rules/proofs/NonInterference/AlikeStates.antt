@@ -1,13 +1,13 @@
 -- Two states that differ in marked numbers alone, and what reading, storing and operands make of them.
 use Prim.Native.Nat.{ℕ, zero, suc, _-_, _%_, _<_, _≤_}
 use mathlib.Core.Path.{_≡_, refl, sym, ap, subst, _∙_}
-use mathlib.Core.Bool.{Bool, true, false, _||_}
+use mathlib.Core.Bool.{Bool, true, false, not, _&&_, _||_}
 use mathlib.Core.List.{List, [], _∷_}
 use native.Mathlib.Omega.{arith}
 use native.Mathlib.Nat.{mod-lt}
 use lib.Dec.{ltb, eqb, lit<}
 use lib.ListN.{length, getD, set}
-use borrow.Author.Tests.{lt-ltb, le-leb}
+use borrow.Author.Tests.{lt-ltb, le-leb, eqb-true}
 use Rattle.rules.specs.declared.OlaOperand.{OlaOperand}
 use Rattle.rules.specs.declared.OlaOperand.the-variants.{Absent, Immediate, Register, RegisterWithOffset, RegisterWithFactor, Psp, Pc}
 use Rattle.rules.specs.declared.Refusal.the-variants.{NotInField, CellAbsent, StoreFault, ProphetStore, SpanPastRegion}
@@ -18,10 +18,11 @@ use Rattle.rules.specs.Memory.{Content, absent, present}
 use Rattle.rules.specs.Cells.{Cells, none, cell, get, put, count, numberCells, markCells}
 use Rattle.rules.specs.Operands.{Want, ignored, lacking, value, later, register, target, inField, valueOf, targetOf, absence, operand}
 use Rattle.rules.specs.Step.{State, Next, isStorable, contentValue, readBelow, readMany, readSpan, storeMany, storeOne}
-use Rattle.rules.specs.Guarded.{registerMark, operandMark, MarkState, contentMark, cellMark, spanMark, cleanMany}
+use Rattle.rules.specs.Guarded.{registerMark, operandMark, isUnmarkedZero, productMark, MarkState, contentMark, cellMark, spanMark, cleanMany}
 use Rattle.rules.specs.Relations.{Both, both-refused, passed}
 use Rattle.rules.proofs.Laws.Relational.{both-same, both-bind, both-require}
-use Rattle.rules.proofs.Laws.BoolLaws.{false-true, or-left, or-right}
+use Rattle.rules.proofs.Laws.BoolLaws.{false-true, or-left, or-right, and-with-false, or-equal}
+use Rattle.rules.proofs.Laws.ProductLaws.{zero-left, zero-right, factor-mark}
 
 -- two numbers under one mark: equal, or where it is marked each below p
 pub data Related : Bool → ℕ → ℕ → Type 0 where
@@ -99,6 +100,32 @@ related-both {v = v} {w} {x} {y} f l (equal h) (equal k) = equal (let a : v ≡ 
 pub related-one : {b : Bool} {v w : ℕ} (f : ℕ → ℕ) → ((x : ℕ) → f x < p) → Related b v w → Related b (f v) (f w)
 related-one f l (hidden h k) = hidden (l _) (l _)
 related-one f l (equal h) = equal (ap f h)
+
+-- a product: only unmarked numbers say whether it is blanked, and then it is 0 in both
+unmarked-zero-alike : {m : Bool} {v w : ℕ} → Related m v w → isUnmarkedZero m v ≡ isUnmarkedZero m w
+unmarked-zero-alike (hidden h k) = refl
+unmarked-zero-alike (equal h) = ap (λ n. eqb n 0) h
+
+pub product-mark-alike : {m n : Bool} {v w x y : ℕ} → Related m v w → Related n x y → productMark m v n x ≡ productMark m w n y
+product-mark-alike {m} {n} g h = ap (λ b. not b && (m || n)) (or-equal (unmarked-zero-alike g) (unmarked-zero-alike h))
+
+pub related-product : {m n : Bool} {v w x y : ℕ} → Related m v w → Related n x y
+    → Related (productMark m v n x) (fieldMul v x) (fieldMul w y)
+related-product (hidden h k) (hidden c d) = hidden (mod-below _) (mod-below _)
+related-product {v = v} {w} {x} {y} (hidden h k) (equal e) = go (eqb x 0) refl
+  where
+    go : (z : Bool) → eqb x 0 ≡ z → Related (not z && true) (fieldMul v x) (fieldMul w y)
+    go true t = let u : x ≡ 0 = eqb-true x 0 t in equal (zero-right v u ∙ sym (zero-right w (sym e ∙ u)))
+    go false t = hidden (mod-below _) (mod-below _)
+related-product {v = v} {w} {x} {y} (equal e) (hidden h k) = go (eqb v 0) refl
+  where
+    go : (z : Bool) → eqb v 0 ≡ z → Related (not (z || false) && true) (fieldMul v x) (fieldMul w y)
+    go true t = let u : v ≡ 0 = eqb-true v 0 t in equal (zero-left x u ∙ sym (zero-left y (sym e ∙ u)))
+    go false t = hidden (mod-below _) (mod-below _)
+related-product {v = v} {w} {x} {y} (equal e) (equal f) =
+    let a : v ≡ w = e in
+    let b : x ≡ y = f in
+    equally (and-with-false (not (eqb v 0 || eqb x 0))) (let c : fieldMul v x ≡ fieldMul w y = cc in c)
 
 -- registers
 
@@ -206,9 +233,9 @@ readMark l later o = false
 readMark l register o = operandMark l o
 readMark l target o = false
 
-field-operand : {b : Bool} {v w : ℕ} (f : ℕ → ℕ → ℕ) (u : ℕ) → ((x y : ℕ) → f x y < p) → Related b v w
-    → Both (Related b) (inField f v u) (inField f w u)
-field-operand f u l h = both-require NotInField (related-element h) (both-require NotInField refl (passed (related-one (λ n. f n u) (λ n. l n u) h)))
+field-operand : {b c : Bool} {v w : ℕ} (f : ℕ → ℕ → ℕ) (u : ℕ) → Related b v w → Related c (f v u) (f w u)
+    → Both (Related c) (inField f v u) (inField f w u)
+field-operand f u h r = both-require NotInField (related-element h) (both-require NotInField refl (passed r))
 
 pub value-operand : (psp : ℕ) {l : List Bool} {r s : List ℕ} → RegistersRelated l r s → (o : OlaOperand)
     → Both (Related (operandMark l o)) (valueOf psp r o) (valueOf psp s o)
@@ -216,8 +243,14 @@ unfolding valueOf
 value-operand psp h Absent = both-refused
 value-operand psp h (Immediate w) = passed (equal refl)
 value-operand psp h (Register i) = passed (registers-get h i)
-value-operand psp h (RegisterWithOffset i w) = field-operand fieldAdd w (λ x y. mod-below _) (registers-get h i)
-value-operand psp h (RegisterWithFactor i w) = field-operand fieldMul w (λ x y. mod-below _) (registers-get h i)
+value-operand psp h (RegisterWithOffset i w) =
+    let g = registers-get h i in
+    field-operand fieldAdd w g (related-one (λ n. fieldAdd n w) (λ n. mod-below _) g)
+value-operand psp {l} {r} {s} h (RegisterWithFactor i w) =
+    let g = registers-get h i in
+    let v = getD r i 0 in
+    field-operand fieldMul w g
+    (subst (λ b. Related b (fieldMul v w) (fieldMul (getD s i 0) w)) (factor-mark (registerMark l i) v w) (related-product g (equal refl)))
 value-operand psp h Psp = passed (equal refl)
 value-operand psp h Pc = both-refused
 

@@ -30,6 +30,8 @@ use Rattle.rules.proofs.NonInterference.AlikeStates.{
   unmarked,
   equally,
   related-both,
+  product-mark-alike,
+  related-product,
   related-one,
   registers-get,
   registers-set,
@@ -162,25 +164,33 @@ module _ (e : Environment) (t : MarkState markCells) (i : Instruction) {s u : St
   same-target c k {o} {q} r h = subst (λ d. Agreed e t c i s u o (record { op0 = q .op0; op1 = q .op1; dst = d })) (unmarked k (r .dst)) h
 
   -- ADD and MUL: f of two elements, to register r
-  in-field : (f : ℕ → ℕ → ℕ) → ((a b : ℕ) → f a b < p) → {S : Type 0} {j k : Bool} {a b v w : ℕ} → Related j a b → Related k v w → (r : ℕ)
-      → Both (λ x y. S → NextRelated (marksRegister markCells t r (j || k)) x y)
+  in-field : (f : ℕ → ℕ → ℕ) {S : Type 0} {j k m : Bool} {a b v w : ℕ} → Related j a b → Related k v w → Related m (f a v) (f b w) → (r : ℕ)
+      → Both (λ x y. S → NextRelated (marksRegister markCells t r m) x y)
       (require (isElement a) NotInField (require (isElement v) NotInField (pass (writesRegister numberCells s (nextPc numberCells s i) r (f a v)))))
       (require (isElement b) NotInField (require (isElement w) NotInField (pass (writesRegister numberCells u (nextPc numberCells u i) r (f b w)))))
-  in-field f l g h r =
+  in-field f g h k r =
       both-require NotInField (related-element g)
-      (both-require NotInField (related-element h) (passed λ _. register-written n (next-pc n i) r (related-both f l g h)))
+      (both-require NotInField (related-element h) (passed λ _. register-written n (next-pc n i) r k))
 
   pub on-addition : {o q : Operands} → OperandsRelated t addition i o q → Agreed e t addition i s u o q
   unfolding readSink marksAfter operate wantsOf
   on-addition {o} r =
       same-target addition refl r
-      (record { sinks = refl; marks = refl; next = in-field fieldAdd (λ a b. mod-below _) (r .op0) (r .op1) (o .dst) })
+      (record {
+        sinks = refl;
+        marks = refl;
+        next = in-field fieldAdd (r .op0) (r .op1) (related-both fieldAdd (λ a b. mod-below _) (r .op0) (r .op1)) (o .dst);
+      })
 
   pub on-multiplication : {o q : Operands} → OperandsRelated t multiplication i o q → Agreed e t multiplication i s u o q
   unfolding readSink marksAfter operate wantsOf
   on-multiplication {o} r =
       same-target multiplication refl r
-      (record { sinks = refl; marks = refl; next = in-field fieldMul (λ a b. mod-below _) (r .op0) (r .op1) (o .dst) })
+      (record {
+        sinks = refl;
+        marks = ap (marksRegister markCells t (o .dst)) (product-mark-alike (r .op0) (r .op1));
+        next = in-field fieldMul (r .op0) (r .op1) (related-product (r .op0) (r .op1)) (o .dst);
+      })
 
   pub on-equality : (f : Bool → Bool) {o q : Operands} → OperandsRelated t (equality f) i o q → Agreed e t (equality f) i s u o q
   unfolding readSink marksAfter operate wantsOf

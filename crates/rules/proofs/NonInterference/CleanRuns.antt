@@ -27,8 +27,10 @@ use Rattle.rules.specs.MarkRules.{
   of-register,
   of-offset,
   of-factor,
+  of-factor-0,
   MarkedAfter,
   result-of-both,
+  result-blanked,
   result-of-one,
   mstore-passes,
   mload-passes,
@@ -72,11 +74,13 @@ clean-operand h of-immediate = refl
 clean-operand h of-psp = refl
 clean-operand h of-register = h _
 clean-operand h of-offset = h _
-clean-operand h of-factor = h _
+clean-operand h (of-factor n) = h _
+clean-operand h of-factor-0 = refl
 
 clean-after : {t : Marking} → Clean t → {i : Instruction} {s : State numberCells} {o : Operands} {c : OlaOpcode} {x : Place} {b : Bool}
     → MarkedAfter t i s o c x b → b ≡ false
-clean-after h (result-of-both {a = a} {b} f p q) = ap (λ z. z || b) (clean-operand h p) ∙ clean-operand h q
+clean-after h (result-of-both {a = a} {b} f n p q) = ap (λ z. z || b) (clean-operand h p) ∙ clean-operand h q
+clean-after h (result-blanked n) = refl
 clean-after h (result-of-one f q) = clean-operand h q
 clean-after h mstore-passes = h _
 clean-after h mload-passes = h _

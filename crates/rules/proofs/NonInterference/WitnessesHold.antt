@@ -14,7 +14,28 @@ use Rattle.rules.specs.Entry.{Snapshot, GuardedSnapshot, usedAddresses, 
 use Rattle.rules.specs.Calls.{Called}
 use Rattle.rules.specs.Encoding.{bytes}
 use Rattle.rules.specs.NonInterference.{MarkedBelow, EqualUnless, Alike, NonInterference}
-use Rattle.rules.specs.Witnesses.{Witness, secret, carries, leaks, MarksCarried, secretCell, passesOn, passesOnLines, showsLine, CellsCarried, beyond, stores, Beyond, Witnesses}
+use Rattle.rules.specs.Witnesses.{
+  Witness,
+  secret,
+  carries,
+  leaks,
+  MarksCarried,
+  secretCell,
+  passesOn,
+  passesOnLines,
+  showsLine,
+  CellsCarried,
+  beyond,
+  stores,
+  Beyond,
+  secretFactor,
+  blanksAndJumps,
+  multipliesAndJumps,
+  blanksAndMultiplies,
+  usesFactorZero,
+  BlankingWitnesses,
+  Witnesses,
+}
 use Rattle.rules.proofs.Laws.BoolLaws.{false-true, and-left, and-right}
 use Rattle.rules.proofs.Laws.EntryLaws.{markedBelow-at}
 use Rattle.rules.proofs.Cases.Unfolding.{calling}
@@ -136,7 +157,7 @@ secrets =
 
 carried-holds : MarksCarried
 unfolding secret carries calling
-carried-holds = record { ends = witness (words-hold carries 10) secrets refl refl; first = refl; second = refl }
+carried-holds = record { agree = witness (words-hold carries 10) secrets refl refl; first = refl; second = refl }
 
 -- A marked cell
 
@@ -154,10 +175,10 @@ unfolding secretCell passesOn passesOnLines showsLine calling
 cells-carried =
     record {
       sameProgram = refl;
-      words = record { ends = witness (words-hold passesOn 10) secret-cells refl refl; first = refl; second = refl };
-      text = record { ends = witness (text-holds passesOnLines 10) secret-cells refl refl; first = refl; second = refl };
+      words = record { agree = witness (words-hold passesOn 10) secret-cells refl refl; first = refl; second = refl };
+      text = record { agree = witness (text-holds passesOnLines 10) secret-cells refl refl; first = refl; second = refl };
       budgetText = record {
-        ends = witness (budget-text-holds (bytes "000000000000000a\n" ++ passesOnLines)) secret-cells refl refl;
+        agree = witness (budget-text-holds (bytes "000000000000000a\n" ++ passesOnLines)) secret-cells refl refl;
         first = refl;
         second = refl;
       };
@@ -179,6 +200,27 @@ beyond-holds : Beyond
 unfolding beyond stores calling
 beyond-holds = record { pauses = witness (words-hold stores 1) beyonds refl refl; addresses = refl; marks = refl }
 
+-- Blanking with zero
+
+secret-factors : Differing (secretFactor 0) (secretFactor 7)
+unfolding secretFactor calling
+secret-factors =
+    record {
+      differ = λ e. let z : _≡_ {A = ℕ} 0 7 = ap (λ (g : GuardedSnapshot). getD (g .plain .machine .registers) 1 0) e in omega arith;
+      alike = alike (secretFactor 0) (secretFactor 7) refl (refl, refl) refl refl;
+      below = (below (secretFactor 0) refl refl, below (secretFactor 7) refl refl);
+    }
+
+blanking-holds : BlankingWitnesses
+unfolding secretFactor blanksAndJumps multipliesAndJumps blanksAndMultiplies usesFactorZero calling
+blanking-holds =
+    record {
+      blanked = record { agree = witness (words-hold blanksAndJumps 10) secret-factors refl refl; first = refl; second = refl };
+      markedZero = record { agree = witness (words-hold multipliesAndJumps 10) secret-factors refl refl; first = refl; second = refl };
+      both = record { agree = witness (words-hold blanksAndMultiplies 10) secret-factors refl refl; first = refl; second = refl };
+      factorZero = record { agree = witness (words-hold usesFactorZero 10) secret-factors refl refl; first = refl; second = refl };
+    }
+
 pub witnesses : Witnesses
 unfolding secret leaks calling
 witnesses =
@@ -187,4 +229,5 @@ witnesses =
       cellsCarried = cells-carried;
       leaked = witness (words-hold leaks 2) secrets refl refl;
       beyond = beyond-holds;
+      blanking = blanking-holds;
     }
