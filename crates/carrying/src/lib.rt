@@ -14,7 +14,7 @@ ghost use lib.ListN.{length, take, drop};
 ghost use Rattle.rules.specs.Numbers.{heapEnd, marksEnd};
 ghost use Rattle.rules.specs.Cells as Cells;
 ghost use Rattle.rules.specs.Step.{overlay};
-ghost use Rattle.rules.specs.Guarded.{cleanMany};
+ghost use Rattle.rules.specs.Guarded.{productMark, cleanMany};
 ghost use Rattle.hardware.specs.Buffers.{cellsOf, putMany, Ordered, Holding};
 ghost use Rattle.effects.specs.Effects.{meant, Placed};
 ghost use Rattle.effects.specs.Carrying.{part, callValues};
@@ -46,6 +46,29 @@ fn marks_after(mode: Mode, register: usize, mark: bool) -> Marks
         return Marks {
             registers: operands::marks::with_mark(mode.extras.registers, register, mark),
         };
+    }
+    mode.extras
+}
+
+// The same for a product. The mode comes first here too: a plain run does not look whether a product is blanked.
+fn product_marks_after(
+    mode: Mode,
+    register: usize,
+    op0: u64,
+    op0_mark: bool,
+    op1: u64,
+    op1_mark: bool,
+) -> Marks
+    requires { ⌜ mode .extras .registers < marksEnd ⌝ }
+    requires { ⌜ register < 10 ⌝ }
+    ensures { λ r. ⌜ r ≡ registerMarksAfter mode register (productMark «op0_mark» op0 «op1_mark» op1) ⌝ }
+{
+    if mode.guarded {
+        return marks_after(
+            mode,
+            register,
+            operands::marks::is_product_marked(op0, op0_mark, op1, op1_mark),
+        );
     }
     mode.extras
 }
@@ -171,6 +194,24 @@ pub fn carry_out(
                 pc: next,
                 counts,
                 extras: marks_after(mode, place, effect.flag | mark),
+                finish: Finish::GoesOn,
+            }
+        }
+        // the marks first: they are made of the operands, which are then no longer needed
+        EffectKind::SetProduct => {
+            let product_extras = product_marks_after(
+                mode,
+                place,
+                effect.op0,
+                effect.flag,
+                effect.op1,
+                mark,
+            );
+            values[place] = effect.number;
+            Stepped {
+                pc: next,
+                counts,
+                extras: product_extras,
                 finish: Finish::GoesOn,
             }
         }

@@ -6,6 +6,7 @@ pub mod ModeRuns
 pub mod Iterations
 pub mod Carried
 -- Laws behind the proofs of the functions.
+pub mod MarksInMode
 pub mod CellsBelow
 pub mod StoreTests
 pub mod Spans

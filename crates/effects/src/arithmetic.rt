@@ -7,6 +7,7 @@ ghost use mathlib.Core.List.{List};
 ghost use Prim.Native.Nat.{ℕ};
 ghost use Rattle.rules.specs.Numbers.{bit};
 ghost use Rattle.rules.specs.Step.{isSmall};
+ghost use Rattle.rules.specs.Guarded.{productMark};
 ghost use Rattle.effects.specs.Effects.{SetRegister, Means};
 ghost use Rattle.effects.specs.Changes.{setsComplement, setsSmall};
 ghost use Rattle.effects.specs.Operations.{setsElement};
@@ -14,14 +15,31 @@ ghost use Rattle.effects.specs.Operations.{setsElement};
 // AND, OR, XOR and GTE take operands below it, RC up to it.
 pub(crate) const SMALL_END: u64 = 0xFFFF_FFFF;
 
-// ADD and MUL, by their result.
-pub fn in_field(result: FieldElement, register: usize, next: u64) -> Effect
+// ADD, by its result.
+pub fn sum(result: FieldElement, register: usize, next: u64) -> Effect
     ensures { λ r. ⌜ ((l : List ℕ) → Means l r (λ t. setsElement result register t next)) ⌝ }
 {
     let FieldElement::Element(x) = result else {
         return Effect::refuse(Refusal::NotInField);
     };
     Effect::set_register(register, x.value, false, next)
+}
+
+// MUL, by its result, its operands and op0's mark.
+pub fn product(
+    result: FieldElement,
+    op0: u64,
+    op0_mark: bool,
+    op1: u64,
+    register: usize,
+    next: u64,
+) -> Effect
+    ensures { λ r. ⌜ ((l : List ℕ) → Means l r (λ t. setsElement result register (productMark «op0_mark» op0 t op1) next)) ⌝ }
+{
+    let FieldElement::Element(x) = result else {
+        return Effect::refuse(Refusal::NotInField);
+    };
+    Effect::set_product(register, x.value, op0, op0_mark, op1, next)
 }
 
 // NOT.

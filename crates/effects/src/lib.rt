@@ -15,6 +15,7 @@ ghost use mathlib.Core.Path.{_≡_};
 ghost use mathlib.Core.Bool.{_||_};
 ghost use mathlib.Core.List.{List};
 ghost use Prim.Native.Nat.{ℕ};
+ghost use Rattle.rules.specs.Guarded.{productMark};
 ghost use Rattle.hardware.specs.declared.cells.Found.the-variants as Found;
 ghost use Rattle.hardware.specs.Buffers.{foundOf};
 ghost use Rattle.effects.specs.Effects.{SetRegister, Store, Jump, LoadTape, StoreTape, CallContract, End, Refuse, Sink, Means};
@@ -34,6 +35,7 @@ pub struct Counts {
 
 pub enum EffectKind {
     SetRegister,
+    SetProduct,
     StoreAt,
     Insert,
     Jump,
@@ -46,14 +48,17 @@ pub enum EffectKind {
 }
 
 // What a step does. One flat record for all kinds, so that it stays in the processor's registers: what a kind does not need is 0. `place`
-// is a register, or a place among cells or on the tape; `next` is the pc after the step; `flag` is the mark of a number from a cell, which
-// counts only in a guarded run, or whether a call delegates. A present cell's address says only what is meant.
+// is a register, or a place among cells or on the tape; `next` is the pc after the step; `flag` is the mark of a number from a cell, or of
+// op0 of a product, which counts only in a guarded run, or whether a call delegates; `op0` and `op1` are those of a product. A present
+// cell's address says only what is meant.
 pub struct Effect {
     pub kind: EffectKind,
     pub place: usize,
     pub count: usize,
     pub address: u64,
     pub number: u64,
+    pub op0: u64,
+    pub op1: u64,
     pub flag: bool,
     pub next: u64,
 }
@@ -69,7 +74,33 @@ impl Effect {
             count: 0,
             address: 0,
             number: value,
+            op0: 0,
+            op1: 0,
             flag: mark,
+            next,
+        }
+    }
+
+    // A product to a register. Its mark is that of the operands, op1's looked at where it is written; an unmarked 0 blanks it.
+    pub(crate) fn set_product(
+        register: usize,
+        value: u64,
+        op0: u64,
+        op0_mark: bool,
+        op1: u64,
+        next: u64,
+    ) -> Effect
+        ensures { λ r. ⌜ ((l : List ℕ) → Means l r (λ t. SetRegister register value (productMark «op0_mark» op0 t op1) next)) ⌝ }
+    {
+        Effect {
+            kind: EffectKind::SetProduct,
+            place: register,
+            count: 0,
+            address: 0,
+            number: value,
+            op0,
+            op1,
+            flag: op0_mark,
             next,
         }
     }
@@ -84,6 +115,8 @@ impl Effect {
             count: 0,
             address,
             number,
+            op0: 0,
+            op1: 0,
             flag: false,
             next,
         }
@@ -99,6 +132,8 @@ impl Effect {
             count: 0,
             address,
             number,
+            op0: 0,
+            op1: 0,
             flag: false,
             next,
         }
@@ -113,6 +148,8 @@ impl Effect {
             count: 0,
             address: 0,
             number: 0,
+            op0: 0,
+            op1: 0,
             flag: false,
             next,
         }
@@ -128,6 +165,8 @@ impl Effect {
             count,
             address,
             number: 0,
+            op0: 0,
+            op1: 0,
             flag: false,
             next,
         }
@@ -143,6 +182,8 @@ impl Effect {
             count,
             address: 0,
             number: 0,
+            op0: 0,
+            op1: 0,
             flag: false,
             next,
         }
@@ -158,6 +199,8 @@ impl Effect {
             count: 0,
             address: 0,
             number: 0,
+            op0: 0,
+            op1: 0,
             flag: delegate,
             next,
         }
@@ -172,6 +215,8 @@ impl Effect {
             count: 0,
             address: 0,
             number: 0,
+            op0: 0,
+            op1: 0,
             flag: false,
             next,
         }
@@ -186,6 +231,8 @@ impl Effect {
             count: 0,
             address: 0,
             number: 0,
+            op0: 0,
+            op1: 0,
             flag: false,
             next: 0,
         }
@@ -201,6 +248,8 @@ impl Effect {
             count: 0,
             address: 0,
             number: 0,
+            op0: 0,
+            op1: 0,
             flag: false,
             next: 0,
         }

@@ -7,10 +7,10 @@ ghost use mathlib.Core.Path.{_≡_};
 ghost use mathlib.Core.Bool.{true};
 ghost use Prim.Native.Nat.{_+_, _≤_};
 ghost use lib.ListN.{length};
-ghost use Rattle.effects.specs.Deciding.{stopsAtOperands, sourcesMarked, Clean};
+ghost use Rattle.effects.specs.Deciding.{stopsAtOperands, watchedMarked, sourcesMarked, Clean};
 ghost use Rattle.effects.specs.Operations.{partMark};
 
-// Is a register marked at which a step stops right after its operands, in a guarded run?
+// Is a register marked at which a step stops right after its operands, in a guarded run? MUL watches op0's mark, but does not stop there.
 pub fn is_operand_sink(mode: Mode, rows: &[u16], row: Row) -> bool
     requires { ⌜ row .at + 8 ≤ length (now rows) ⌝ }
     ensures { λ r. ⌜ r ≡ stopsAtOperands mode (now (rows .entry)) row ⌝ }
@@ -18,7 +18,19 @@ pub fn is_operand_sink(mode: Mode, rows: &[u16], row: Row) -> bool
     if !mode.guarded {
         return false;
     }
-    marks::is_any(mode.extras.registers, row.sinks(rows))
+    if !marks::is_any(mode.extras.registers, row.watched(rows)) {
+        return false;
+    }
+    !row.is_mul(rows)
+}
+
+// Is op0 of a MUL marked? As in `is_source_marked`, no test of the mode.
+pub fn is_op0_marked(mode: Mode, rows: &[u16], row: Row) -> bool
+    requires { ⌜ row .at + 8 ≤ length (now rows) ⌝ }
+    requires { ⌜ Clean mode ⌝ }
+    ensures { λ r. ⌜ r ≡ watchedMarked mode (now (rows .entry)) row ⌝ }
+{
+    marks::is_any(mode.extras.registers, row.watched(rows))
 }
 
 // Is a register marked that a step's number is made of? No test of the mode here, between a step's decision and its writing: in a plain

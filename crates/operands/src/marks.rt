@@ -1,7 +1,8 @@
-// The marks of registers: bit r of a word is the mark of register r.
+// Marks of registers, bit r of a word is the mark of register r; and of a product of two numbers.
 ghost use mathlib.Core.Path.{_≡_};
 ghost use Prim.Native.Nat.{_<_};
 ghost use lib.ListN.{set};
+ghost use Rattle.rules.specs.Guarded.{productMark};
 ghost use Rattle.rules.specs.Entry.{lowBits, wordOfBits};
 ghost use Rattle.frames.specs.RegisterSets.{setEnd, isAny};
 
@@ -10,6 +11,16 @@ pub fn is_any(marks: u64, registers: u64) -> bool
     ensures { λ r. ⌜ r ≡ isAny marks registers ⌝ }
 {
     marks & registers != 0
+}
+
+// Is a product marked, by its operands and their marks? An unmarked 0 on either side blanks it.
+pub fn is_product_marked(op0: u64, op0_mark: bool, op1: u64, op1_mark: bool) -> bool
+    ensures { λ r. ⌜ r ≡ productMark «op0_mark» op0 «op1_mark» op1 ⌝ }
+{
+    if op0_mark {
+        return op1_mark | (op1 != 0);
+    }
+    op1_mark & (op0 != 0)
 }
 
 // The marks after a register was written.

@@ -66,101 +66,120 @@ marks-after-requires c κs = let s = start (c .before .before .before) in (s .pr
 enum-told-2 : tie.Need-enum-told-2
 enum-told-2 c = search needs
 
+-- a product's register
+product-register-below : (c : tie.After-enum-told2) → start (c .before .before) .args .effect .place < 10
+product-register-below c =
+    let s = start (c .before .before) in
+    let e = meant-by (s .args .mark) (s .args .effect) (c .enum-told2 .given .1) in
+    register-named (core 0 s) (s .args .storage-addr) (change s) (can 0 s) _ _ _ _ e
+
+product-marks-after-requires : tie.Need-product-marks-after-requires
+product-marks-after-requires c κs = let s = start (c .before .before) in (s .pre .1 .1 .ready .registerMarks, product-register-below c)
+
+mul-values-2 : tie.Need-mul-values-2
+mul-values-2 c = omega (arith, product-register-below (c .before))
+
+slice-write-values-2 : tie.Need-slice-write-values-2
+slice-write-values-2 c = let s = start (c .before .before .before) in omega (arith, product-register-below (c .before), s .pre .0)
+
+enum-told-3 : tie.Need-enum-told-3
+enum-told-3 c = search needs
+
 write-at-requires : tie.Need-write-at-requires
 write-at-requires c κs =
     let t = c .before .before in
     let s = start (t .before .before) in
-    let f = placed-by _ (s .args .effect) (t .enum-told2 .given .1) (s .pre .1 .0) in
+    let f = placed-by _ (s .args .effect) (t .enum-told3 .given .1) (s .pre .1 .0) in
     write-asks (core 0 s) (s .args .storage-addr) (change s) (can 0 s) _ _ f
 
-enum-told-3 : tie.Need-enum-told-3
-enum-told-3 c = search needs
+enum-told-4 : tie.Need-enum-told-4
+enum-told-4 c = search needs
 
 insert-requires : tie.Need-insert-requires
 insert-requires c κs =
     let t = c .before .before .before in
     let s = start (t .before .before) in
-    let e = meant-by (s .args .mark) (s .args .effect) (t .enum-told3 .given .1) in
-    let f = placed-by _ (s .args .effect) (t .enum-told3 .given .1) (s .pre .1 .0) in
+    let e = meant-by (s .args .mark) (s .args .effect) (t .enum-told4 .given .1) in
+    let f = placed-by _ (s .args .effect) (t .enum-told4 .given .1) (s .pre .1 .0) in
     insert-asks (core 0 s) (s .args .storage-addr) (change s) (can 0 s) _ _ _ _ _ e f
 
 add-cells : tie.Need-add-cells
 add-cells c =
     let t = c .before .before .before .before .before .before .before .before .before .before .before in
     let s = start (t .before .before) in
-    let e = meant-by (s .args .mark) (s .args .effect) (t .enum-told3 .given .1) in
-    let f = placed-by _ (s .args .effect) (t .enum-told3 .given .1) (s .pre .1 .0) in
+    let e = meant-by (s .args .mark) (s .args .effect) (t .enum-told4 .given .1) in
+    let f = placed-by _ (s .args .effect) (t .enum-told4 .given .1) (s .pre .1 .0) in
     omega (arith, insert-asks (core 0 s) (s .args .storage-addr) (change s) (can 0 s) _ _ _ _ _ e f .1 .0, s .good)
-
-enum-told-4 : tie.Need-enum-told-4
-enum-told-4 c = search needs
 
 enum-told-5 : tie.Need-enum-told-5
 enum-told-5 c = search needs
+
+enum-told-6 : tie.Need-enum-told-6
+enum-told-6 c = search needs
 
 load-tape-requires : tie.Need-load-tape-requires
 load-tape-requires c κs =
     let t = c .before .before .before .before in
     let s = start (t .before .before) in
-    let e = meant-by (s .args .mark) (s .args .effect) (t .enum-told5 .given .1) in
+    let e = meant-by (s .args .mark) (s .args .effect) (t .enum-told6 .given .1) in
     load-asks (core 0 s) (s .args .storage-addr) (change s) (can 0 s) _ _ _ _ e
 
-enum-told-6 : tie.Need-enum-told-6
-enum-told-6 c = search needs
+enum-told-7 : tie.Need-enum-told-7
+enum-told-7 c = search needs
 
 append-numbers-requires : tie.Need-append-numbers-requires
 append-numbers-requires c κs =
     let t = c .before .before in
     let s = start (t .before .before) in
-    let e = meant-by (s .args .mark) (s .args .effect) (t .enum-told6 .given .1) in
+    let e = meant-by (s .args .mark) (s .args .effect) (t .enum-told7 .given .1) in
     tape-asks (core 0 s) (s .args .storage-addr) (change s) (can 0 s) _ _ _ e
 
 append-numbers-requires-2 : tie.Need-append-numbers-requires-2
 append-numbers-requires-2 c κs =
     let t = c .before .before .before .before .before .before .before in
     let s = start (t .before .before) in
-    let e = meant-by (s .args .mark) (s .args .effect) (t .enum-told6 .given .1) in
+    let e = meant-by (s .args .mark) (s .args .effect) (t .enum-told7 .given .1) in
     output-asks (core 0 s) (s .args .storage-addr) (change s) (can 0 s) _ _ _ e
 
 add-tape-count : tie.Need-add-tape-count
 add-tape-count c =
     let t = c .before .before .before .before .before .before .before .before .before .before .before in
     let s = start (t .before .before) in
-    let e = meant-by (s .args .mark) (s .args .effect) (t .enum-told6 .given .1) in
+    let e = meant-by (s .args .mark) (s .args .effect) (t .enum-told7 .given .1) in
     omega (arith, tape-asks (core 0 s) (s .args .storage-addr) (change s) (can 0 s) _ _ _ e .1, s .good)
 
 add-output-count : tie.Need-add-output-count
 add-output-count c =
     let t = c .before .before .before .before .before .before .before .before .before .before .before .before in
     let s = start (t .before .before) in
-    let e = meant-by (s .args .mark) (s .args .effect) (t .enum-told6 .given .1) in
+    let e = meant-by (s .args .mark) (s .args .effect) (t .enum-told7 .given .1) in
     omega (arith, output-asks (core 0 s) (s .args .storage-addr) (change s) (can 0 s) _ _ _ e .1, s .good)
 
-enum-told-7 : tie.Need-enum-told-7
-enum-told-7 c = search needs
+enum-told-8 : tie.Need-enum-told-8
+enum-told-8 c = search needs
 
 call-contract-requires : tie.Need-call-contract-requires
 call-contract-requires c κs =
     let t = c .before .before in
     let s = start (t .before .before) in
-    let e = meant-by (s .args .mark) (s .args .effect) (t .enum-told7 .given .1) in
+    let e = meant-by (s .args .mark) (s .args .effect) (t .enum-told8 .given .1) in
     call-asks (core 0 s) (s .args .storage-addr) (change s) (can 0 s) _ _ _ e
 
 add-tape-count-2 : tie.Need-add-tape-count-2
 add-tape-count-2 c =
     let t = c .before .before .before .before .before .before in
     let s = start (t .before .before) in
-    let e = meant-by (s .args .mark) (s .args .effect) (t .enum-told7 .given .1) in
+    let e = meant-by (s .args .mark) (s .args .effect) (t .enum-told8 .given .1) in
     omega (arith, call-asks (core 0 s) (s .args .storage-addr) (change s) (can 0 s) _ _ _ e .1, s .good)
 
-enum-told-8 : tie.Need-enum-told-8
-enum-told-8 c = search needs
+enum-told-9 : tie.Need-enum-told-9
+enum-told-9 c = search needs
 
 enum-known-kind : tie.Need-enum-known-kind
 enum-known-kind c = search needs
 
-enum-told-9 : tie.Need-enum-told-9
-enum-told-9 c = search needs
+enum-told-10 : tie.Need-enum-told-10
+enum-told-10 c = search needs
 
 same-length : tie.Need-same-length
 same-length c = search needs
@@ -179,20 +198,31 @@ returns c =
 same-length-2 : tie.Need-same-length-2
 same-length-2 c = search needs
 
+returns-2 : tie.Need-returns-2
+returns-2 c =
+    let t = c .before in
+    let s = start (t .before .before) in
+    let e = meant-by (s .args .mark) (s .args .effect) (t .enum-told2 .given .1) in
+    let r = product-register-below t in
+    let g = take-set-lt 10 (s .args .values .now) _ _ r in (
+      λ clk. sets-register (core clk s) (s .args .storage-addr) (change s) (can clk s) _ _ _ _ _ _ e g (c .product-marks-after .ensures),
+      (length-set (s .args .values .now) _ _, drop-set-lt 10 (s .args .values .now) _ _ r),
+    )
+
 same-length-3 : tie.Need-same-length-3
 same-length-3 c = search needs
 
-returns-2 : tie.Need-returns-2
-returns-2 c =
-    let t = c .before .before .before .before .before .before .before in
-    let s = start (t .before .before) in
-    let e = meant-by (s .args .mark) (s .args .effect) (t .enum-told2 .given .1) in
-    let f = placed-by _ (s .args .effect) (t .enum-told2 .given .1) (s .pre .1 .0) in
-    let w = c .before .before .before .before .write-at .ensures in
-    (λ clk. writes-cell (core clk s) (s .args .storage-addr) (change s) (can clk s) _ _ _ _ _ _ _ e f (w .0) (w .1), (refl, refl))
-
 same-length-4 : tie.Need-same-length-4
 same-length-4 c = search needs
+
+returns-3 : tie.Need-returns-3
+returns-3 c =
+    let t = c .before .before .before .before .before .before .before in
+    let s = start (t .before .before) in
+    let e = meant-by (s .args .mark) (s .args .effect) (t .enum-told3 .given .1) in
+    let f = placed-by _ (s .args .effect) (t .enum-told3 .given .1) (s .pre .1 .0) in
+    let w = c .before .before .before .before .write-at .ensures in
+    (λ clk. writes-cell (core clk s) (s .args .storage-addr) (change s) (can clk s) _ _ _ _ _ _ _ e f (w .0) (w .1), (refl, refl))
 
 same-length-5 : tie.Need-same-length-5
 same-length-5 c = search needs
@@ -200,22 +230,22 @@ same-length-5 c = search needs
 same-length-6 : tie.Need-same-length-6
 same-length-6 c = search needs
 
-returns-3 : tie.Need-returns-3
-returns-3 c =
-    let t = c .before .before .before .before .before .before .before .before .before .before .before in
-    let s = start (t .before .before) in
-    let e = meant-by (s .args .mark) (s .args .effect) (t .enum-told3 .given .1) in
-    let w = c .before .before .before .before .before .before .before .insert .ensures in
-    (λ clk. stores-cell (core clk s) (s .args .storage-addr) (change s) (can clk s) _ _ _ _ _ _ _ _ e w, (refl, refl))
+same-length-7 : tie.Need-same-length-7
+same-length-7 c = search needs
 
 returns-4 : tie.Need-returns-4
 returns-4 c =
-    let s = start (c .before .before) in
-    let e = meant-by (s .args .mark) (s .args .effect) (c .enum-told4 .given .1) in
-    (λ clk. jumps (core clk s) (s .args .storage-addr) (change s) (can clk s) _ e, (refl, refl))
+    let t = c .before .before .before .before .before .before .before .before .before .before .before in
+    let s = start (t .before .before) in
+    let e = meant-by (s .args .mark) (s .args .effect) (t .enum-told4 .given .1) in
+    let w = c .before .before .before .before .before .before .before .insert .ensures in
+    (λ clk. stores-cell (core clk s) (s .args .storage-addr) (change s) (can clk s) _ _ _ _ _ _ _ _ e w, (refl, refl))
 
-same-length-7 : tie.Need-same-length-7
-same-length-7 c = search needs
+returns-5 : tie.Need-returns-5
+returns-5 c =
+    let s = start (c .before .before) in
+    let e = meant-by (s .args .mark) (s .args .effect) (c .enum-told5 .given .1) in
+    (λ clk. jumps (core clk s) (s .args .storage-addr) (change s) (can clk s) _ e, (refl, refl))
 
 same-length-8 : tie.Need-same-length-8
 same-length-8 c = search needs
@@ -226,16 +256,16 @@ same-length-9 c = search needs
 same-length-10 : tie.Need-same-length-10
 same-length-10 c = search needs
 
-returns-5 : tie.Need-returns-5
-returns-5 c =
-    let t = c .before .before .before .before .before .before .before .before .before .before .before in
-    let s = start (t .before .before) in
-    let e = meant-by (s .args .mark) (s .args .effect) (t .enum-told5 .given .1) in
-    let w = c .before .before .before .before .before .before .load-tape .ensures in
-    (λ clk. loads-tape (core clk s) (s .args .storage-addr) (change s) (can clk s) _ _ _ _ _ _ _ _ e w, (refl, refl))
-
 same-length-11 : tie.Need-same-length-11
 same-length-11 c = search needs
+
+returns-6 : tie.Need-returns-6
+returns-6 c =
+    let t = c .before .before .before .before .before .before .before .before .before .before .before in
+    let s = start (t .before .before) in
+    let e = meant-by (s .args .mark) (s .args .effect) (t .enum-told6 .given .1) in
+    let w = c .before .before .before .before .before .before .load-tape .ensures in
+    (λ clk. loads-tape (core clk s) (s .args .storage-addr) (change s) (can clk s) _ _ _ _ _ _ _ _ e w, (refl, refl))
 
 same-length-12 : tie.Need-same-length-12
 same-length-12 c = search needs
@@ -243,46 +273,49 @@ same-length-12 c = search needs
 same-length-13 : tie.Need-same-length-13
 same-length-13 c = search needs
 
-returns-6 : tie.Need-returns-6
-returns-6 c =
+same-length-14 : tie.Need-same-length-14
+same-length-14 c = search needs
+
+returns-7 : tie.Need-returns-7
+returns-7 c =
     let t = c .before .before .before .before .before .before .before .before .before .before .before .before in
     let s = start (t .before .before) in
-    let e = meant-by (s .args .mark) (s .args .effect) (t .enum-told6 .given .1) in
+    let e = meant-by (s .args .mark) (s .args .effect) (t .enum-told7 .given .1) in
     let w = c .before .before .before .before .before .before .before .before .before .append-numbers .ensures in
     let o = c .before .before .before .before .append-numbers2 .ensures in
     (λ clk. stores-tape (core clk s) (s .args .storage-addr) (change s) (can clk s) _ _ _ _ _ e w o, (refl, refl))
 
-same-length-14 : tie.Need-same-length-14
-same-length-14 c = search needs
-
 same-length-15 : tie.Need-same-length-15
 same-length-15 c = search needs
 
-returns-7 : tie.Need-returns-7
-returns-7 c =
-    let t = c .before .before .before .before .before .before in
-    let s = start (t .before .before) in
-    let e = meant-by (s .args .mark) (s .args .effect) (t .enum-told7 .given .1) in
-    let w = c .before .before .before .call-contract .ensures in
-    (λ clk. calls-contract (core clk s) (s .args .storage-addr) (change s) (can clk s) (four s) _ _ _ _ _ e (w .0) (w .1), (refl, refl))
+same-length-16 : tie.Need-same-length-16
+same-length-16 c = search needs
 
 returns-8 : tie.Need-returns-8
 returns-8 c =
-    let s = start (c .before .before) in
-    let e = meant-by (s .args .mark) (s .args .effect) (c .enum-told8 .given .1) in
-    (λ clk. ends-run (core clk s) (s .args .storage-addr) (change s) (can clk s) _ e, (refl, refl))
+    let t = c .before .before .before .before .before .before in
+    let s = start (t .before .before) in
+    let e = meant-by (s .args .mark) (s .args .effect) (t .enum-told8 .given .1) in
+    let w = c .before .before .before .call-contract .ensures in
+    (λ clk. calls-contract (core clk s) (s .args .storage-addr) (change s) (can clk s) (four s) _ _ _ _ _ e (w .0) (w .1), (refl, refl))
 
 returns-9 : tie.Need-returns-9
 returns-9 c =
+    let s = start (c .before .before) in
+    let e = meant-by (s .args .mark) (s .args .effect) (c .enum-told9 .given .1) in
+    (λ clk. ends-run (core clk s) (s .args .storage-addr) (change s) (can clk s) _ e, (refl, refl))
+
+returns-10 : tie.Need-returns-10
+returns-10 c =
     let t = c .before in
     let s = start (t .before .before) in
     let e = meant-by (s .args .mark) (s .args .effect) (t .kind .given .1) in
     (λ clk. refuses-step (core clk s) (s .args .storage-addr) (change s) (can clk s) _ e, (refl, refl))
 
-returns-10 : tie.Need-returns-10
-returns-10 c =
+returns-11 : tie.Need-returns-11
+returns-11 c =
     let s = start (c .before .before) in
-    let e = meant-by (s .args .mark) (s .args .effect) (c .enum-told9 .given .1) in
+    let e = meant-by (s .args .mark) (s .args .effect) (c .enum-told10 .given .1) in
     (λ clk. sinks (core clk s) (s .args .storage-addr) (change s) (can clk s) e, (refl, refl))
 
 pub carry-out-spec : {M : Type 1} → statement M
@@ -294,46 +327,52 @@ carry-out-spec =
     slice-write-values
     marks-after-requires
     enum-told-2
-    write-at-requires
+    product-marks-after-requires
+    mul-values-2
+    slice-write-values-2
     enum-told-3
+    write-at-requires
+    enum-told-4
     insert-requires
     add-cells
-    enum-told-4
     enum-told-5
-    load-tape-requires
     enum-told-6
+    load-tape-requires
+    enum-told-7
     append-numbers-requires
     append-numbers-requires-2
     add-tape-count
     add-output-count
-    enum-told-7
+    enum-told-8
     call-contract-requires
     add-tape-count-2
-    enum-told-8
-    enum-known-kind
     enum-told-9
+    enum-known-kind
+    enum-told-10
     same-length
     returns
     same-length-2
-    same-length-3
     returns-2
+    same-length-3
     same-length-4
+    returns-3
     same-length-5
     same-length-6
-    returns-3
-    returns-4
     same-length-7
+    returns-4
+    returns-5
     same-length-8
     same-length-9
     same-length-10
-    returns-5
     same-length-11
+    returns-6
     same-length-12
     same-length-13
-    returns-6
     same-length-14
-    same-length-15
     returns-7
+    same-length-15
+    same-length-16
     returns-8
     returns-9
-    returns-10)
+    returns-10
+    returns-11)

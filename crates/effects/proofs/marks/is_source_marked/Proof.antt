@@ -1,15 +1,8 @@
 -- `effects::marks::is_source_marked` meets its contract: by the row's sources; in a plain run the registers' marks are 0.
-use mathlib.Core.Path.{_≡_, refl, ap}
-use mathlib.Core.Bool.{Bool, true, false, _&&_}
-use Prim.Native.Nat.{ℕ}
 use borrow.Author.Needs.{needs}
-use Rattle.frames.specs.RegisterSets.{isAny}
+use Rattle.effects.proofs.MarksInMode.{in-mode}
 use Rattle.effects.proofs.marks.is_source_marked.Statement.{statement}
 use Rattle.effects.proofs.marks.is_source_marked.Tie as tie
-
-in-mode : (guarded : Bool) (w set : ℕ) → (guarded ≡ false → w ≡ 0) → isAny w set ≡ (guarded && isAny w set)
-in-mode true w set h = refl
-in-mode false w set h = ap (λ (v : ℕ). isAny v set) (h refl)
 
 sources-requires : tie.Need-sources-requires
 sources-requires c κs = search needs

@@ -1,7 +1,7 @@
--- `effects::arithmetic::in_field` meets its contract: by the result.
+-- `effects::arithmetic::sum` meets its contract: by the result.
 use borrow.Author.Needs.{needs}
-use Rattle.effects.proofs.arithmetic.in_field.Statement.{statement}
-use Rattle.effects.proofs.arithmetic.in_field.Tie as tie
+use Rattle.effects.proofs.arithmetic.sum.Statement.{statement}
+use Rattle.effects.proofs.arithmetic.sum.Tie as tie
 
 enum-known-result : tie.Need-enum-known-result
 enum-known-result c = search needs
@@ -21,8 +21,8 @@ set-register-requires c κs = search needs
 returns-2 : tie.Need-returns-2
 returns-2 c = rw (c .before .before .result .given .1) (c .set-register .ensures)
 
-pub in-field-spec : {M : Type 1} → statement M
-in-field-spec =
+pub sum-spec : {M : Type 1} → statement M
+sum-spec =
     tie.close
     (tie.spec
     enum-known-result
