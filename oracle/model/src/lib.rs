@@ -4,7 +4,7 @@
 //! It is independent: it uses the records of the package `ola`, which are plain data, and neither the library nor the source.
 
 pub mod code;
-mod decide;
+pub mod decide;
 pub mod entry;
 pub mod frames;
 pub mod kilosteps;
@@ -13,6 +13,6 @@ pub mod machine;
 pub mod numbers;
 pub mod opcodes;
 pub mod predict;
-mod reading;
+pub mod reading;
 pub mod sinks;
 pub mod state;
