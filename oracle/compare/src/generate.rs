@@ -2,6 +2,7 @@
 
 mod edges;
 mod loops;
+pub mod products;
 pub mod starts;
 
 use model::frames::Frame;

@@ -6,12 +6,14 @@ use model::frames::encode;
 use model::predict::{predict, Prediction};
 use model::sinks::{all_sinks, Sink};
 use ola::{Answer, Buffers, Lent, Machine, Program};
+use oracle::case::Case;
 use oracle::splitmix::SplitMix64;
 
+use crate::blanking::Blanking;
 use crate::counts::all_met;
 use crate::damage;
 use crate::differences::{as_predicted, difference};
-use crate::generate::{self, starts, Form};
+use crate::generate::{self, products, starts, Form};
 use crate::options::Options;
 use crate::progress::Progress;
 use crate::tables::{grouped, head, row};
@@ -35,8 +37,7 @@ pub fn compare(options: &Options) -> Result<(), String> {
 
 fn compare_program(seed: u64, number: u64, counts: &mut Counts) -> Result<(), String> {
     let mut random = generate::random_of(seed, number);
-    let form = draw_form(&mut random);
-    let case = generate::case(&mut random, form);
+    let case = draw_case(&mut random);
     let mut words = encode(&case.program);
     if random.percent(1) {
         damage::words(&mut random, &mut words);
@@ -62,13 +63,15 @@ fn compare_program(seed: u64, number: u64, counts: &mut Counts) -> Result<(), St
     })
 }
 
-fn draw_form(random: &mut SplitMix64) -> Form {
-    match random.below(100) {
+fn draw_case(random: &mut SplitMix64) -> Case {
+    let form = match random.below(100) {
         0..=14 => Form::Loops,
-        15..=64 => Form::Random,
+        15..=44 => Form::Random,
+        45..=64 => return products::case(random),
         65..=89 => Form::AnyOperands,
         _ => Form::Edges,
-    }
+    };
+    generate::case(random, form)
 }
 
 fn compare_pair(
@@ -89,6 +92,7 @@ fn compare_pair(
     let is_different = start.machine != twin.machine
         || same_used("numbers", cells, numbers, twin_numbers).is_err();
     counts.count(&answer, predicted.sink, is_different);
+    counts.blanking.count(program, start, twin);
     Ok(())
 }
 
@@ -200,6 +204,7 @@ struct Counts {
     sinks: Vec<u64>,
     /// The most steps before refusal 18.
     latest: u64,
+    blanking: Blanking,
 }
 
 impl Counts {
@@ -223,12 +228,13 @@ impl Counts {
 
     fn complete(&self) -> Result<(), String> {
         let sinks = all_sinks();
-        let missing: Vec<String> = sinks
+        let mut missing: Vec<String> = sinks
             .iter()
             .zip(&self.sinks)
             .filter(|(_, count)| **count == 0)
             .map(|(sink, _)| sink.name())
             .collect();
+        missing.extend(self.blanking.missing());
         all_met(&missing)
     }
 
@@ -260,6 +266,7 @@ impl Counts {
         for (sink, count) in all_sinks().iter().zip(&self.sinks) {
             row(&mut text, &sink.name(), &[grouped(*count)]);
         }
+        self.blanking.put(&mut text);
         text
     }
 }

@@ -1,5 +1,6 @@
 //! The proved library beside the source's `resume`, at scale.
 
+mod blanking;
 mod counts;
 mod damage;
 mod damaged;

@@ -8,7 +8,7 @@ use ola::Lent;
 use oracle::first_list::values;
 use oracle::splitmix::SplitMix64;
 
-/// In buffers with little or much free space, and with any PSP.
+/// In buffers with little or much free space, and with any PSP, often 0.
 pub fn lent_start(random: &mut SplitMix64, state: &State) -> Lent {
     let capacity = Capacity {
         cells: state.cells.len() + random.pick(&[0, 1, 2, 8, 100]),
@@ -16,8 +16,10 @@ pub fn lent_start(random: &mut SplitMix64, state: &State) -> Lent {
         output: state.output.len() + random.pick(&[0, 1, 4, 12, 100]),
     };
     let mut lent = lend(state, capacity);
-    if random.percent(30) {
-        lent.machine.psp = values::any(random);
+    match random.below(10) {
+        0 => lent.machine.psp = 0,
+        1..=3 => lent.machine.psp = values::any(random),
+        _ => {}
     }
     lent
 }
@@ -55,13 +57,13 @@ pub fn twin(random: &mut SplitMix64, lent: &Lent) -> Lent {
     } = &mut twin;
     for (register, number) in machine.registers.iter_mut().enumerate() {
         if extras.registers >> register & 1 == 1 {
-            *number = values::any(random) % P;
+            *number = secret(random);
         }
     }
     let cells = machine.cell_count as usize;
     for (mark, number) in buffers.marks.iter().zip(&mut buffers.numbers).take(cells) {
         if *mark == 1 {
-            *number = values::any(random) % P;
+            *number = secret(random);
         }
     }
     for (buffer, count) in [
@@ -75,4 +77,12 @@ pub fn twin(random: &mut SplitMix64, lent: &Lent) -> Lent {
         buffer[used..].fill(random.draw());
     }
     twin
+}
+
+/// A number that may be marked, often 0.
+fn secret(random: &mut SplitMix64) -> u64 {
+    match random.below(5) {
+        0 => 0,
+        _ => values::any(random) % P,
+    }
 }
