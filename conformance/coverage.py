@@ -5,7 +5,7 @@ import sys
 from collections import Counter
 
 import vectors
-from covered import parts, steps
+from covered import blanking, parts, steps
 from covered.report import heading, missing, table
 from generate import DRAWN_PARTS, PARTS
 
@@ -26,6 +26,9 @@ def main():
     parts.registers_table(given)
     parts.sizes_table(given)
     parts.sinks_table(given)
+    blanking.products_table(given)
+    blanking.factors_table(given)
+    blanking.uses_table(given)
     if missing:
         sys.exit("coverage.py: the vectors do not cover: " + "; ".join(missing))
 

@@ -4,8 +4,8 @@
 import sys
 
 from generator import (
-    capacities, clocks, digits, entry, kilosteps, kinds, lengths, malformed, marks, operands, programs, refusals, regions, registers, sizes,
-    starts, steps, texts, values,
+    capacities, clocks, digits, entry, factors, kilosteps, kinds, lengths, malformed, marks, operands, products, programs, refusals,
+    regions, registers, sizes, starts, steps, texts, values, zeros,
 )  # fmt: skip
 from generator.numbers import SplitMix64
 
@@ -14,7 +14,7 @@ SEED = 0x01A57E9
 HEAD = f"""\
 # The generated vectors: cases for an implementation of the step machine. The format is described in conformance/FORMAT.md. This file is made by
 #   python3 conformance/generate.py > crates/vectors/stdin
-# Its last two parts are drawn by SplitMix64 from the seed {SEED:x}.
+# Its last three parts are drawn by SplitMix64 from the seed {SEED:x}.
 """
 
 # What a case's name begins with, what the part has, and its cases.
@@ -27,6 +27,8 @@ PARTS = [
     ("text", "Each opcode, each kind and each register in each place, as text.", texts.cases),
     ("refusal", "Each refusal of a step, and each two that can meet.", refusals.cases),
     ("mark", "Marks: where they go, and each sink.", marks.cases),
+    ("product", "Products of unmarked zeros, other unmarked numbers and marked ones; sums and comparisons too.", products.cases),
+    ("factor", "Factor 0 and others on marked registers, in each place; what becomes of a blanked number.", factors.cases),
     ("region", "The regions' edges.", regions.cases),
     ("capacity", "Buffers just long enough, and one too short; what stands in unused places.", capacities.cases),
     ("size", "Many instructions, cells and values.", sizes.cases),
@@ -37,7 +39,11 @@ PARTS = [
     ("start", "Inputs of `solve`: what it starts with, the greatest sizes, output in its order.", starts.cases),
     ("entry", "What is refused before a step.", entry.cases),
 ]
-DRAWN_PARTS = [("step", "Steps, drawn.", steps.cases), ("program", "Programs, drawn.", programs.cases)]
+DRAWN_PARTS = [
+    ("step", "Steps, drawn.", steps.cases),
+    ("program", "Programs, drawn.", programs.cases),
+    ("zero", "Programs of products among zeros and marks, drawn.", zeros.cases),
+]
 
 
 def main():

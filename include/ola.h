@@ -40,7 +40,7 @@ extern "C" {
 
 /* The version of the records below, and of the rules and the format in conformance/: one number, which conformance/VERSION has too. It
  * rises whenever a record, a rule or the format changes. */
-#define OLA_VERSION 3
+#define OLA_VERSION 4
 
 /* Limits. More is refused: OLA_BAD_LENGTH for a program, OLA_BAD_STATE for a state. */
 #define OLA_MOST_FRAMES 512          /* instructions of a program */

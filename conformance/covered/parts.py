@@ -5,8 +5,8 @@ from collections import Counter
 from covered.report import heading, require, table
 from covered.steps import REFUSALS
 from generator import digits, lengths, malformed, marks, operands, refusals, registers, sizes
-from generator.frames import KINDS, OPCODES, PLACES, UNCOVERED
-from generator.passing import is_read_as_value
+from generator.frames import KINDS, OFFSET, OPCODES, PLACES, UNCOVERED
+from generator.passing import OPERANDS, is_read_as_value
 
 
 class Given:
@@ -24,11 +24,16 @@ class Given:
     def answer(self, name, call=0):
         return self.fields(name, call)[0]
 
-    def marks(self, name):
+    def marks(self, name, call=0):
         """The cells' marks that are written, and the registers' marks, which have place a."""
-        lines = self.lines(name)
+        lines = self.lines(name, call)
         registers = [field for line in lines if line.startswith("registers ") for field in line.split(" ") if field.startswith("a=")]
         return [line for line in lines if line.startswith("marks ")] + registers
+
+    def register_marks(self, name, before, call=0):
+        """The registers' marks after a call, where these stood before the first."""
+        written = [mark for each in range(call + 1) for mark in self.marks(name, each) if mark.startswith("a=")]
+        return int(written[-1].removeprefix("a="), 16) if written else before
 
 
 def guarded_calls(answers):
@@ -128,7 +133,8 @@ def operands_table(given):
         "What a step answers, first where the operand is p or more, or for an offset or factor its register or its word; then where it"
         " gives the number with which the step passes, for an offset with parts that do not give it as a factor, and the other way round;"
         " then where its register is marked, with `mark` where another mark stands afterwards than with all others marked that are not"
-        " read. Places that the opcode does not read as a value have the first and the last alone.",
+        " read; then, for an offset or factor, where its register is marked and its word is 0. Places that the opcode does not read as a"
+        " value have the first and the third alone.",
     )
     rows = []
     for opcode in OPCODES:
@@ -152,7 +158,19 @@ def operand_cell(given, opcode, place, kind):
         require(answers["others marked"] == answers["passes"], f"{where}, others marked: {answers['others marked']}")
         require(kind not in operands.CALCULATED or answers["from p on"] == ["7"], f"{where}: {answers['from p on']}")
         require("marked" not in names or shown[-1] == "18" or shown[-1].endswith("mark"), f"{where}, marked: {shown[-1]}")
+        for what in ("marked 0", "marked, sum 0"):
+            require(what not in names or answers[what] == answers["marked"], f"{where}, {what}: {answers.get(what)}")
+        if kind in operands.CALCULATED:
+            effect = effect_of_word_0(given, *names["marked, word 0"])
+            require(effect == shown[-1] if kind == OFFSET else effect in ("e1", "e2", "e3", "11"), f"{where}, marked, word 0: {effect}")
+            shown.append(effect)
     return ", ".join(shown)
+
+
+def effect_of_word_0(given, name):
+    """The answer, and whether the result is marked, which has its register in all steps that mark one."""
+    is_marked = given.register_marks(name, 0) >> OPERANDS["ADD"]["dst"].register & 1
+    return given.answer(name) + (" mark" if is_marked else "")
 
 
 def registers_table(given):

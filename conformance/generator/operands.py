@@ -52,6 +52,8 @@ def changes(kind, value, unread):
         some["passes"] = [Change("the register p - 1", *gives), Change("the word p - 1", *reversed(gives))]
         some["marked, from p on"] = [Change("marked, the word p", 0, P, 1 << NUMBER)]
         some["marked, word 0"] = [Change("marked, the word 0", value, 0, 1 << NUMBER)]
+    if kind == OFFSET:
+        some["marked, sum 0"] = [Change("marked, the sum 0", P - 1, 1, 1 << NUMBER)]
     if kind in WITH_REGISTER:
         some["marked"] = [Change("marked", *gives, 1 << NUMBER)]
         some["marked 0"] = [Change("marked, the register 0", 0, value, 1 << NUMBER)]

@@ -30,16 +30,9 @@ def is_read(opcode, place):
 
 
 def reads(opcode, place, kind, number):
-    """The register holds what makes the step pass, the others something else."""
-    base = passing("", opcode)
-    value = base.registers[OPERANDS[opcode][place].register]
-    own, word = parts(kind, value)
-    numbers = {other: 0x1000 + 0x11 * other for other in range(REGISTER_COUNT)}
-    numbers[number] = own
-    others = {other: immediate(base.registers[operand.register]) for other, operand in OPERANDS[opcode].items() if other != "dst"}
-    if "dst" in OPERANDS[opcode]:
-        others["dst"] = immediate(base.registers[3]) if opcode == "TLOAD" else register((number + 3) % REGISTER_COUNT)
-    words = frame(opcode, **{**others, place: operand_of_kind(kind, number, word)})
+    """The register holds what makes the step pass."""
+    own, word = parts(kind, passing("", opcode).registers[OPERANDS[opcode][place].register])
+    words, numbers = reading(opcode, place, operand_of_kind(kind, number, word), own)
     name = f"R{number} as {place} of {opcode}, {KINDS[kind]}"
     for what, marks in (("it alone marked", 1 << number), ("all but it marked", ALL ^ 1 << number)):
         case = Case(f"{name}, {what}", words, registers=dict(numbers), cells=dict(CELLS), tape=list(TAPE))
@@ -47,9 +40,24 @@ def reads(opcode, place, kind, number):
         yield case
 
 
+def reading(opcode, place, operand, own):
+    """The instruction, and the registers: that of the operand holds its own number, the others something else. The result's is another."""
+    base = passing("", opcode)
+    numbers = {other: 0x1000 + 0x11 * other for other in range(REGISTER_COUNT)}
+    numbers[operand.register] = own
+    others = {other: immediate(base.registers[each.register]) for other, each in OPERANDS[opcode].items() if other != "dst"}
+    if "dst" in OPERANDS[opcode]:
+        others["dst"] = immediate(base.registers[3]) if opcode == "TLOAD" else register(result_of(operand.register))
+    return frame(opcode, **{**others, place: operand}), numbers
+
+
+def result_of(number):
+    return (number + 3) % REGISTER_COUNT
+
+
 def results(opcode, number):
     """The result in the register: its old mark goes, the operands' comes; and with the register as an operand too."""
-    other = (number + 3) % REGISTER_COUNT
+    other = result_of(number)
     numbers = {place: 0x10 + place for place in range(REGISTER_COUNT)}
     cells = {address: 0x70 + address for address in (4, *range(0x12, 0x1C))}
     operands = {place: immediate(2) for place in OPERANDS[opcode]}
