@@ -7,6 +7,7 @@ CODE = "oracle/model/src/code.rs"
 DECIDE = "oracle/model/src/decide.rs"
 ENTRY = "oracle/model/src/entry.rs"
 FRAMES = "oracle/model/src/frames.rs"
+READING = "oracle/model/src/reading.rs"
 
 COVERED = [opcode for opcode in OPCODES if opcode not in UNCOVERED]
 
@@ -31,6 +32,18 @@ PATTERNS = [
     "Operand::Psp",
     "Operand::Pc",
 ]
+
+# How it matches the kinds that may be marked, and those that may be an unmarked 0.
+MARKED = {"register": "Operand::Register(_)", "offset": "Operand::Offset(..)", "factor": "Operand::Factor(..)"}
+ZEROS = {
+    "immediate": "Operand::Immediate(_)",
+    "register": "Operand::Register(_)",
+    "offset": "Operand::Offset(..)",
+    "offset_with_a_number": "Operand::Offset(register, _) if self.state.registers[register] != 0",
+    "factor_with_an_unmarked_register": "Operand::Factor(register, _) if !self.register(register).marked",
+    "factor_with_a_marked_register": "Operand::Factor(register, _) if self.register(register).marked",
+    "PSP": "Operand::Psp",
+}
 
 # Bytes beside the digits, and as which digit each is read.
 BYTES = {
@@ -64,7 +77,8 @@ SINKS = (
 
 
 def all_slips():
-    return [*lengths(), *line_ends(), *digits(), *first_words(), *selectors(), *values(), *kinds(), *registers(), *uncovered(), *sinks()]
+    programs = [*lengths(), *line_ends(), *digits(), *first_words(), *selectors()]
+    return [*programs, *values(), *kinds(), *registers(), *uncovered(), *sinks(), *factors(), *products()]
 
 
 def lengths():
@@ -184,6 +198,53 @@ def sinks():
     for opcode, place in SINKS:
         new = f"            if number.marked && !(opcode == Opcode::{opcode} && place == Place::{place}) {{"
         yield Edit(f"{opcode}_{place}_is_no_sink", ["sinks"], DECIDE, [old], [new])
+
+
+def factors():
+    """An operand with factor 0 has its register's mark, or what is marked beside it passes."""
+    factor_0, is_marked = "Operand::Factor(register, 0)", "self.register(register).marked"
+    marked_0 = "Operand::Offset(register, (P - self.state.registers[register]) % P)"
+    for opcode, place in VALUES:
+        yield changed(f"{opcode}_{place}_factor_0_keeps_the_mark", "blanking", opcode, place, factor_0, is_marked, marked_0)
+    old = "            Operand::Factor(register, word) => product(self.register(register), unmarked(word)),"
+    for register in range(10):
+        new = [
+            f"            Operand::Factor({register}, 0) => product(self.register({register}), unmarked(0))",
+            f"                .map(|zero| Number {{ marked: self.register({register}).marked, ..zero }}),",
+        ]
+        yield Edit(f"factor_0_keeps_the_mark_of_r{register}", ["blanking"], READING, [old], [*new, old])
+    old = "            if number.marked {"
+    for opcode, place in SINKS:
+        for other in ("op0", "op1", "dst"):
+            # With factor 0 as its length TSTORE has no cells.
+            if (opcode, other) in VALUES and other != place.lower() and (opcode, place, other) != ("TSTORE", "Cells", "op1"):
+                beside = f"opcode == Opcode::{opcode} && place == Place::{place} && matches!(frame.{other}, Operand::Factor(_, 0))"
+                new = f"            if number.marked && !({beside}) {{"
+                yield Edit(f"{opcode}_{place}_passes_beside_factor_0_as_{other}", ["blanking"], DECIDE, [old], [new])
+
+
+def products():
+    """A MUL is not blanked by an unmarked 0 of one kind or register, or not in one register; or a marked 0 of one kind blanks it."""
+    for place, number, beside, other in (("op0", "a", "op1", "b"), ("op1", "b", "op0", "a")):
+        for zero, pattern in ZEROS.items():
+            for kind, marked in MARKED.items():
+                kept = f"{other}.marked && matches!(frame.{place}, {pattern}) && matches!(frame.{beside}, {marked})"
+                yield mark_of_mul(f"{zero}_{place}_does_not_blank_{kind}", f"product.marked || {kept}")
+        for register in range(10):
+            kept = f"{other}.marked && frame.{place} == Operand::Register({register})"
+            yield mark_of_mul(f"r{register}_does_not_blank_as_{place}", f"product.marked || {kept}")
+        for kind, marked in MARKED.items():
+            lost = f"{number}.value == 0 && matches!(frame.{place}, {marked})"
+            yield mark_of_mul(f"a_marked_0_blanks_as_{kind}_{place}", f"product.marked && !({lost})")
+    for register in range(10):
+        yield mark_of_mul(f"r{register}_is_not_blanked", f"product.marked || (a.marked || b.marked) && dst == {register}")
+
+
+def mark_of_mul(name, mark):
+    """MUL gives another mark than that of its `product`."""
+    old = "                    product(a, b)?"
+    new = ["                    let product = product(a, b)?;", f"                    Number {{ marked: {mark}, ..product }}"]
+    return Edit(name, ["blanking"], DECIDE, [old], new)
 
 
 def changed(name, purpose, opcode, place, pattern, condition, operand):

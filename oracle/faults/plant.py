@@ -32,7 +32,8 @@ REFUSALS = range(1, 19)
 MARK_RULES = [
     "a result is marked where op0 is",
     "a result is marked where op1 is",
-    "ADD and MUL",
+    "ADD",
+    "MUL",
     "EQ and NEQ",
     "NOT",
     "MOV",
@@ -60,6 +61,24 @@ SINKS = (
 # Rules of document 02.
 REQUESTS = ["the earliest malformed frame", "kilosteps at the half", "eight digits together"]
 
+BLANKING_RULES = [
+    "an unmarked 0 of op0 blanks a product",
+    "an unmarked 0 of op1 blanks a product",
+    "a marked 0 of op0 blanks nothing",
+    "a marked 0 of op1 blanks nothing",
+    "each mark counts with its own number",
+    "the old mark of dst goes",
+    "factor 0 gives an unmarked number",
+    "factor 0 is no sink",
+    "another factor keeps the mark",
+    "offset 0 keeps the mark",
+    "ADD of a 0 keeps the mark",
+    "another opcode's 0 keeps the mark",
+    "MUL stops at no mark",
+    "the other opcodes stop at their sinks",
+    "7 goes before it",
+]
+
 # What must have a fault, in the words of the lines `for:`.
 REQUIRED = (
     [f"opcode {opcode}" for opcode in OPCODES if opcode not in UNCOVERED]
@@ -68,6 +87,7 @@ REQUIRED = (
     + [f"mark rule: {rule}" for rule in MARK_RULES]
     + [f"sink: {sink}" for sink in SINKS]
     + REQUESTS
+    + [f"blanking with zero: {rule}" for rule in BLANKING_RULES]
 )
 
 

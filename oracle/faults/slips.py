@@ -48,13 +48,13 @@ TOPICS = [
     *["entry order", "state", "marks at entry"],
     *["order of a step", "operand kinds", "operands below p", "offset and factor", "marks of operands", "fetching"],
     *[f"opcode {opcode}" for opcode in families.COVERED],
-    *["reading", "spans", "storing", "tape", "capacity", "budget", "clock", "sinks", "marks"],
+    *["reading", "spans", "storing", "tape", "capacity", "budget", "clock", "sinks", "marks", "blanking"],
     *["what is left", "answers", "kilosteps", "plain calls"],
 ]
 
 # What one kind of run alone has.
 PLAIN_ALONE = {"plain calls"}
-GUARDED_ALONE = {"marks at entry", "marks of operands", "sinks", "marks"}
+GUARDED_ALONE = {"marks at entry", "marks of operands", "sinks", "marks", "blanking"}
 
 
 class Notices:
