@@ -52,6 +52,7 @@ answer-read (A.DelegateCalling a b c d) steps = refl
 answer-read A.Paused steps = refl
 answer-read (A.Refused f) steps = refusal-read f steps
 answer-read A.MarkedSink steps = refl
+answer-read A.ShortBuffer steps = refl
 
 pub steps-read : (m : Meaning) (steps : ℕ) → getD (answerRecord m steps) 2 0 ≡ steps
 unfolding answerRecord

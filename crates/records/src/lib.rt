@@ -91,6 +91,7 @@ fn callee_of(answer: Answer) -> [u64; 4]
         Answer::Paused => [0; 4],
         Answer::Refused(_) => [0; 4],
         Answer::MarkedSink => [0; 4],
+        Answer::ShortBuffer => [0; 4],
     }
 }
 

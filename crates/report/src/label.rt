@@ -23,6 +23,7 @@ pub fn label_of(answer: Answer) -> Label
         Answer::Paused => Label::Outcome(3),
         Answer::Refused(refusal) => refusal_label(refusal),
         Answer::MarkedSink => Label::Refusal(18),
+        Answer::ShortBuffer => Label::Refusal(19),
     }
 }
 

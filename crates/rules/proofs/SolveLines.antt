@@ -118,6 +118,7 @@ answer-short (A.DelegateCalling a b c d) = omega arith
 answer-short A.Paused = omega arith
 answer-short (A.Refused f) = refusal-short f
 answer-short A.MarkedSink = omega arith
+answer-short A.ShortBuffer = omega arith
 
 printed-short : (answer : Meaning) (steps : ℕ) (left : Snapshot) → Short answer → length (usedOutput left) ≤ 4096
     → length (printed (record { answer = answer; steps = steps; left = left })) ≤ 71 + 4096 * 17

@@ -37,3 +37,4 @@ meaning (A.DelegateCalling a b c d) = outcome 2 (a ∷ b ∷ c ∷ d ∷ [])
 meaning A.Paused = outcome 3 []
 meaning (A.Refused f) = refusalMeaning f
 meaning A.MarkedSink = refusal 18 []
+meaning A.ShortBuffer = refusal 19 []

@@ -38,7 +38,7 @@ pub data When : Type 0 where
   withStep : When
   atBudget : When
 
--- 1, 2 and 3; 4 to 16 and 18; e0, e1, e2 and 17; e3. There are no other numbers, by `IsAnswer`.
+-- 1, 2 and 3; 4 to 16, 18 and 19; e0, e1, e2 and 17; e3. There are no other numbers, by `IsAnswer`.
 abbrev pub when : Meaning → When
 when (outcome n vs) = choose (eqb n 3) atBudget withStep
 when (refusal n vs) = choose (leb n 3) atEntry (choose (eqb n 17) withStep insteadOfStep)
@@ -128,7 +128,7 @@ pub record Promised
   pub refusedAtEntry : when (c .answer) ≡ atEntry → c .steps ≡ 0
   -- without a step, everything is as handed in
   pub withoutStep : c .steps ≡ 0 → c .left ≡ s
-  -- 4 to 16 and 18, after k steps: everything is as the call with budget k leaves it, which paused, and the step from there is refused
+  -- 4 to 16, 18 and 19, after k steps: everything is as the call with budget k leaves it, which paused, and the step from there is refused
   pub refusedAtStep : when (c .answer) ≡ insteadOfStep
       → (c .steps < budget) × (withBudget (c .steps) ≡ pausedAfter (c .steps) (c .left)) × StepIsRefused (c .left) (c .answer)
   -- e0, e1, e2 and 17 come with a step, and so does e3 unless no step is done: an accepted one, from what the call

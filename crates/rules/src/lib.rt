@@ -83,7 +83,7 @@ pub enum Refusal {
 }
 
 // A run's outcome, e0 to e3, or its refusal. A calling outcome carries the callee's address. `MarkedSink` is refusal 18, which only a
-// guarded run gives.
+// guarded run gives, `ShortBuffer` is refusal 19, which only a traced run gives.
 pub enum Answer {
     Ended,
     Calling(u64, u64, u64, u64),
@@ -91,6 +91,7 @@ pub enum Answer {
     Paused,
     Refused(Refusal),
     MarkedSink,
+    ShortBuffer,
 }
 
 // The state that is no buffer, and how much of each buffer is used.

@@ -25,6 +25,9 @@ enum-told-3 c = search needs
 enum-told-4 : tie.Need-enum-told-4
 enum-told-4 c = search needs
 
+enum-told-5 : tie.Need-enum-told-5
+enum-told-5 c = search needs
+
 returns : tie.Need-returns
 unfolding calleeOf meaning
 returns c = same-callee (c .enum-told .given .1)
@@ -49,6 +52,10 @@ returns-6 : tie.Need-returns-6
 unfolding calleeOf meaning
 returns-6 c = same-callee (c .enum-told4 .given .1)
 
+returns-7 : tie.Need-returns-7
+unfolding calleeOf meaning
+returns-7 c = same-callee (c .enum-told5 .given .1)
+
 pub callee-of-spec : {M : Type 1} → statement M
 callee-of-spec =
     tie.close
@@ -59,9 +66,11 @@ callee-of-spec =
     enum-told-2
     enum-told-3
     enum-told-4
+    enum-told-5
     returns
     returns-2
     returns-3
     returns-4
     returns-5
-    returns-6)
+    returns-6
+    returns-7)

@@ -1,7 +1,7 @@
 -- Answers are known by their meanings: no two have the same.
 use Prim.Native.Nat.{ℕ}
 use mathlib.Core.Path.{_≡_, refl, sym, ap, _∙_}
-use mathlib.Core.List.{List, [], _∷_, map}
+use mathlib.Core.List.{List, [], _∷_, _++_, map}
 use native.Mathlib.Omega.{arith}
 use lib.ListN.{getD}
 use Rattle.rules.specs.declared.Refusal.{Refusal}
@@ -40,11 +40,11 @@ refusals vs =
     ∷ R.ClockEnd
     ∷ []
 
--- the answer of a meaning; 18 is the one past the list's end
+-- the answer of a meaning; 18 follows the refusals of a plain run, 19 is past the list's end
 answerOf : Meaning → Answer
 answerOf (outcome n vs) = getD (outcomes vs) n A.Ended
-answerOf (refusal ℕ.zero vs) = A.MarkedSink
-answerOf (refusal (ℕ.suc n) vs) = getD (map A.Refused (refusals vs)) n A.MarkedSink
+answerOf (refusal ℕ.zero vs) = A.ShortBuffer
+answerOf (refusal (ℕ.suc n) vs) = getD (map A.Refused (refusals vs) ++ (A.MarkedSink ∷ [])) n A.ShortBuffer
 
 refusal-back : (f : Refusal) → answerOf (refusalMeaning f) ≡ A.Refused f
 unfolding answerOf refusals refusalMeaning
@@ -74,6 +74,7 @@ answer-back (A.DelegateCalling a b c d) = refl
 answer-back A.Paused = refl
 answer-back (A.Refused f) = refusal-back f
 answer-back A.MarkedSink = refl
+answer-back A.ShortBuffer = refl
 
 pub meaning-injective : (a b : Answer) → meaning a ≡ meaning b → a ≡ b
 meaning-injective a b h = sym (answer-back a) ∙ (ap answerOf h ∙ answer-back b)

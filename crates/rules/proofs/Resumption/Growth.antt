@@ -23,10 +23,10 @@ pub record Grown (s t : State numberCells) : Type 0 where
   pub cells : count (s .cells) ≤ count (t .cells)
   pub tape : length (s .tape) ≤ length (t .tape)
 
-grown-same : (s : State numberCells) → Grown s s
+pub grown-same : (s : State numberCells) → Grown s s
 grown-same s = record { cells = omega arith; tape = omega arith }
 
-grown-twice : {s t u : State numberCells} → Grown s t → Grown t u → Grown s u
+pub grown-twice : {s t u : State numberCells} → Grown s t → Grown t u → Grown s u
 grown-twice h k = let a = h .cells in let b = k .cells in let c = h .tape in let d = k .tape in record { cells = omega arith; tape = omega arith }
 
 put-grows : (c : Cells ℕ) (a v : ℕ) → Rising c → count c ≤ count (put c a v)

@@ -28,6 +28,9 @@ refusal-label-requires c κs = search needs
 enum-told-5 : tie.Need-enum-told-5
 enum-told-5 c = search needs
 
+enum-told-6 : tie.Need-enum-told-6
+enum-told-6 c = search needs
+
 returns : tie.Need-returns
 unfolding meaning
 returns c = labels-outcome (ap meaning (c .enum-told .given .1))
@@ -56,6 +59,10 @@ returns-6 : tie.Need-returns-6
 unfolding meaning
 returns-6 c = labels-refusal (ap meaning (c .enum-told5 .given .1))
 
+returns-7 : tie.Need-returns-7
+unfolding meaning
+returns-7 c = labels-refusal (ap meaning (c .enum-told6 .given .1))
+
 pub label-of-spec : {M : Type 1} → statement M
 label-of-spec =
     tie.close
@@ -67,9 +74,11 @@ label-of-spec =
     enum-known-answer
     refusal-label-requires
     enum-told-5
+    enum-told-6
     returns
     returns-2
     returns-3
     returns-4
     returns-5
-    returns-6)
+    returns-6
+    returns-7)
