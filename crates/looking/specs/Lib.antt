@@ -1,0 +1,2 @@
+-- What is seen of a step before it is made.
+pub mod Looks

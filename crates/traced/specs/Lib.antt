@@ -1,0 +1,2 @@
+-- What the traced step's functions give.
+pub mod Steps
