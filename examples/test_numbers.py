@@ -1,5 +1,5 @@
 #!/usr/bin/env python3
-"""Holds the numbers of the header, of the Rust bindings and of the vectors' generator to the definitions in crates/rules."""
+"""Holds the numbers of the header, the Rust bindings and the vectors' generator to the definitions in crates/rules and crates/sheets."""
 
 import re
 import runpy
@@ -31,8 +31,8 @@ def prefixed(prefix, numbers):
 
 
 def defined_numbers():
-    """Those of Numbers.antt; one may be defined as another."""
-    numbers = {}
+    """Those of Numbers.antt; one may be defined as another. And the bytes of a line of the sheet."""
+    numbers = numbers_in(read("crates/sheets/specs/Lines.antt"), r"^(lineBytes) = (\d+)$")
     for name, value in re.findall(r"^(\w+) = (\w+)$", read("crates/rules/specs/Numbers.antt"), re.MULTILINE):
         numbers[name] = numbers[value] if value in numbers else number(value)
     return numbers
@@ -64,6 +64,7 @@ OUTCOMES = defined_answers("outcome")
 REFUSALS = defined_answers("refusal")
 # Of the limit and the refusal, CLOCK_END is the limit.
 REFUSALS["CLOCK_END_REACHED"] = REFUSALS.pop("CLOCK_END")
+LINE = {"LINE_BYTES": NUMBERS["lineBytes"]}
 PSP = NUMBERS["defaultPsp"]
 LENGTHS = prefixed("length of ", defined_lengths())
 
@@ -113,12 +114,12 @@ class Numbers(unittest.TestCase):
 
     def test_header(self):
         found, others = header_numbers()
-        constants = {"VERSION": number(VERSION), **LIMITS, **OUTCOMES, **REFUSALS}
+        constants = {"VERSION": number(VERSION), **LIMITS, **LINE, **OUTCOMES, **REFUSALS}
         self.hold(HEADER, found, {**prefixed("OLA_", constants), "psp of OLA_START": PSP, **LENGTHS})
         self.assertFalse(others, f"lines of {HEADER} with numbers that this test does not know")
 
     def test_bindings(self):
-        constants = {**LIMITS, **prefixed("outcome::", OUTCOMES), **prefixed("refusal::", REFUSALS)}
+        constants = {**LIMITS, **LINE, **prefixed("outcome::", OUTCOMES), **prefixed("refusal::", REFUSALS)}
         self.hold(BINDINGS, bindings_numbers(), {**constants, "psp of Machine": PSP, **LENGTHS})
 
     def test_version_of_the_bindings(self):

@@ -1,16 +1,17 @@
 /* The Ola step machine, proved: its interface for C and for whatever can call C.
  *
  * Link with libola.a, for x86-64, which `rt staticlib ola` writes to target/staticlib. The library allocates nothing, keeps nothing between
- * calls, reads and writes nothing but what it is lent, and uses at most 56 KB of stack, 40 KB where a program is given as words. Calls on
- * different records and buffers may run at the same time.
+ * calls, reads and writes nothing but what it is lent, and uses at most 56 KB of stack, 40 KB where a program is given as words; a traced
+ * run uses at most 152 KB, 136 KB from words. Calls on different records and buffers may run at the same time.
  *
  *     cc -Iinclude solve.c target/staticlib/libola.a
  *
  * The machine has ten registers, a memory, a tape and an output. A call runs a program for at most `budget` steps: it checks all that it is
  * handed, runs, writes what is left into the same places, and fills in an answer. What a paused call leaves can be handed in again and goes
  * on. The plain run executes a program. The guarded run also keeps marks on numbers that must stay secret, and stops where a marked number
- * would be used at a sink, that is where it would decide something that can be seen. conformance/RULES.md says what each instruction does,
- * in which order things are refused, and which uses are sinks.
+ * would be used at a sink, that is where it would decide something that can be seen. The traced run is a plain run that also writes a step
+ * sheet, a line of text for each step. conformance/RULES.md says what each instruction does, in which order things are refused, which uses
+ * are sinks, and what stands in a line of the sheet.
  *
  * Example: a program as text, with its budget in the first line.
  *
@@ -40,7 +41,7 @@ extern "C" {
 
 /* The version of the records below, and of the rules and the format in conformance/: one number, which conformance/VERSION has too. It
  * rises whenever a record, a rule or the format changes. */
-#define OLA_VERSION 4
+#define OLA_VERSION 5
 
 /* Limits. More is refused: OLA_BAD_LENGTH for a program, OLA_BAD_STATE for a state. */
 #define OLA_MOST_FRAMES 512          /* instructions of a program */
@@ -107,7 +108,8 @@ enum {
     OLA_PROPHET_STORE = 15,    /* a store into the prophet region */
     OLA_NO_CAPACITY = 16,      /* the cells, the tape or the output are full */
     OLA_CLOCK_END_REACHED = 17, /* clk came to 10^12 */
-    OLA_MARKED_SINK = 18       /* guarded runs only: a marked number would be used at a sink */
+    OLA_MARKED_SINK = 18,      /* guarded runs only: a marked number would be used at a sink */
+    OLA_SHORT_BUFFER = 19      /* traced runs only: the sheet is too short for the step's line */
 };
 
 /* What all calls below are handed.
@@ -156,6 +158,39 @@ void ola_guarded_run_budget_text(const uint8_t *text, size_t text_length, ola_ma
                                  uint64_t *numbers, size_t numbers_capacity, uint64_t *marks, size_t marks_capacity,
                                  uint64_t *tape, size_t tape_capacity, uint64_t *output, size_t output_capacity,
                                  ola_answer *answer);
+
+/* The traced run: the plain run, which also writes a sheet, from its start at every call. `sheet_capacity` is in bytes and has no limit.
+ * Each accepted step writes a line of OLA_LINE_BYTES bytes, that of OLA_CLOCK_END_REACHED too: after a call the sheet's first
+ * OLA_LINE_BYTES * answer.steps bytes are the lines, and what stands behind them is as it was; no NUL is added.
+ *
+ * A line is 16 words in the form of a frame's text: 16 lower-case hexadecimal digits for each word, then a line feed. The words are clk, pc
+ * and r0 to r9 before the step; op0 and op1 as the step read them, and dst, which is the result, the number loaded or the number stored;
+ * and a word whose bits 0, 1 and 2 say which of these three are present. One that is not present is 0. The table in conformance/RULES.md
+ * says which those are for each opcode.
+ *
+ * Only two things differ from the plain run:
+ * - a step that nothing else refuses is refused OLA_SHORT_BUFFER where fewer than OLA_LINE_BYTES bytes are left for its line; what that
+ *   leaves can be handed in again, and the call fills the sheet from its start;
+ * - CALL also reads cell R9 - 2, and is refused OLA_CELL_ABSENT where that cell is not there or R9 is below 2.
+ *
+ * The entry check of a traced run is that of the plain run. */
+#define OLA_LINE_BYTES 257
+
+void ola_traced_run_words(const uint64_t *words, size_t words_length, uint64_t budget, ola_machine *machine,
+                          uint64_t *addresses, size_t addresses_capacity, uint64_t *numbers, size_t numbers_capacity,
+                          uint64_t *tape, size_t tape_capacity, uint64_t *output, size_t output_capacity,
+                          uint8_t *sheet, size_t sheet_capacity, ola_answer *answer);
+
+void ola_traced_run_text(const uint8_t *text, size_t text_length, uint64_t budget, ola_machine *machine,
+                         uint64_t *addresses, size_t addresses_capacity, uint64_t *numbers, size_t numbers_capacity,
+                         uint64_t *tape, size_t tape_capacity, uint64_t *output, size_t output_capacity,
+                         uint8_t *sheet, size_t sheet_capacity, ola_answer *answer);
+
+void ola_traced_run_budget_text(const uint8_t *text, size_t text_length, ola_machine *machine,
+                                uint64_t *addresses, size_t addresses_capacity,
+                                uint64_t *numbers, size_t numbers_capacity,
+                                uint64_t *tape, size_t tape_capacity, uint64_t *output, size_t output_capacity,
+                                uint8_t *sheet, size_t sheet_capacity, ola_answer *answer);
 
 /* One step: a run with a budget of 1. */
 void ola_step_words(const uint64_t *words, size_t words_length, ola_machine *machine,
@@ -210,7 +245,7 @@ uint64_t ola_kilosteps(uint64_t clk);
 typedef struct {
     uint64_t *addresses;
     uint64_t *numbers;
-    uint64_t *marks;      /* for guarded calls; plain calls do not look at it, and it may be null */
+    uint64_t *marks;      /* for guarded calls; other calls do not look at it, and it may be null */
     size_t cell_capacity; /* of addresses, of numbers and of marks */
     uint64_t *tape;
     size_t tape_capacity;
@@ -218,7 +253,7 @@ typedef struct {
     size_t output_capacity;
 } ola_buffers;
 
-/* The same calls, with the buffers in one struct. */
+/* The same calls, with the buffers in one struct; the sheet of a traced run is a parameter of its own. */
 
 static inline void ola_run_words_in(const uint64_t *words, size_t words_length, uint64_t budget, ola_machine *machine,
                                     const ola_buffers *buffers, ola_answer *answer) {
@@ -263,6 +298,30 @@ static inline void ola_guarded_run_budget_text_in(const uint8_t *text, size_t te
                                 buffers->numbers, buffers->cell_capacity, buffers->marks, buffers->cell_capacity,
                                 buffers->tape, buffers->tape_capacity, buffers->output, buffers->output_capacity,
                                 answer);
+}
+
+static inline void ola_traced_run_words_in(const uint64_t *words, size_t words_length, uint64_t budget,
+                                           ola_machine *machine, const ola_buffers *buffers,
+                                           uint8_t *sheet, size_t sheet_capacity, ola_answer *answer) {
+    ola_traced_run_words(words, words_length, budget, machine, buffers->addresses, buffers->cell_capacity,
+                         buffers->numbers, buffers->cell_capacity, buffers->tape, buffers->tape_capacity,
+                         buffers->output, buffers->output_capacity, sheet, sheet_capacity, answer);
+}
+
+static inline void ola_traced_run_text_in(const uint8_t *text, size_t text_length, uint64_t budget,
+                                          ola_machine *machine, const ola_buffers *buffers,
+                                          uint8_t *sheet, size_t sheet_capacity, ola_answer *answer) {
+    ola_traced_run_text(text, text_length, budget, machine, buffers->addresses, buffers->cell_capacity,
+                        buffers->numbers, buffers->cell_capacity, buffers->tape, buffers->tape_capacity,
+                        buffers->output, buffers->output_capacity, sheet, sheet_capacity, answer);
+}
+
+static inline void ola_traced_run_budget_text_in(const uint8_t *text, size_t text_length, ola_machine *machine,
+                                                 const ola_buffers *buffers, uint8_t *sheet, size_t sheet_capacity,
+                                                 ola_answer *answer) {
+    ola_traced_run_budget_text(text, text_length, machine, buffers->addresses, buffers->cell_capacity,
+                               buffers->numbers, buffers->cell_capacity, buffers->tape, buffers->tape_capacity,
+                               buffers->output, buffers->output_capacity, sheet, sheet_capacity, answer);
 }
 
 static inline void ola_step_words_in(const uint64_t *words, size_t words_length, ola_machine *machine,

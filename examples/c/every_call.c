@@ -5,13 +5,15 @@
 
 #include "ola.h"
 
-enum { CELLS = 4, TAPE = 9, OUTPUT = 3 };
+/* Capacities. The sheet takes three lines, and its bytes fill whole words. */
+enum { CELLS = 4, TAPE = 9, OUTPUT = 3, SHEET = 3 * OLA_LINE_BYTES + 5 };
 
-/* All that a call is lent: words alone, so that two can be compared byte for byte. */
+/* All that a call is lent, without gaps, so that two can be compared byte for byte. */
 typedef struct {
     ola_machine machine;
     ola_marks extras;
     uint64_t addresses[CELLS], numbers[CELLS], marks[CELLS], tape[TAPE], output[OUTPUT];
+    uint8_t sheet[SHEET];
     ola_answer answer;
 } lent;
 
@@ -40,6 +42,7 @@ static lent start_of(int which) {
                   {1, 0, 0, 0},
                   {5, 6, 7, 8, 0, 0, 0, 0, 0},
                   {4, 0, 0},
+                  {0},
                   {0, 0, 0, 0, {0}}};
     if (which == CELL_COUNT) start.machine.cell_count = CELLS + 1;
     if (which == TAPE_COUNT) start.machine.tape_count = TAPE + 1;
@@ -79,6 +82,16 @@ static void compare(const char *function, int which, const lent *one, const lent
         compare(#function, which, &one, &other);                                                      \
     }
 
+#define TRACED(function, ...)                                                                         \
+    for (int which = FIT; which < STARTS; which++) {                                                  \
+        lent one = start_of(which), other = start_of(which);                                          \
+        const ola_buffers buffers = buffers_of(&other);                                               \
+        function(__VA_ARGS__, &one.machine, one.addresses, CELLS, one.numbers, CELLS, one.tape, TAPE, \
+                 one.output, OUTPUT, one.sheet, SHEET, &one.answer);                                  \
+        function##_in(__VA_ARGS__, &other.machine, &buffers, other.sheet, SHEET, &other.answer);      \
+        compare(#function, which, &one, &other);                                                      \
+    }
+
 #define GUARDED(function, ...)                                                                     \
     for (int which = FIT; which < STARTS; which++) {                                               \
         lent one = start_of(which), other = start_of(which);                                       \
@@ -97,6 +110,9 @@ int main(void) {
     PLAIN(ola_check_words, words, words_length)
     PLAIN(ola_check_text, text, text_length)
     PLAIN(ola_check_budget_text, job, job_length)
+    TRACED(ola_traced_run_words, words, words_length, 100)
+    TRACED(ola_traced_run_text, text, text_length, 100)
+    TRACED(ola_traced_run_budget_text, job, job_length)
     GUARDED(ola_guarded_run_words, words, words_length, 100)
     GUARDED(ola_guarded_run_text, text, text_length, 100)
     GUARDED(ola_guarded_run_budget_text, job, job_length)

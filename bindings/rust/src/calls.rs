@@ -91,6 +91,30 @@ pub fn guarded_run<B: AsMut<[u64]>>(
     }
 }
 
+/// The traced run: the plain run, which also writes the sheet from its start, a line of `LINE_BYTES` bytes for each step. A step that
+/// nothing else refuses is refused `refusal::SHORT_BUFFER` where fewer bytes are left; CALL also reads cell R9 - 2, and is refused
+/// `refusal::CELL_ABSENT` where that is not there.
+pub fn traced_run<B: AsMut<[u64]>>(
+    program: Program,
+    machine: &mut Machine,
+    buffers: &mut Buffers<B>,
+    sheet: &mut [u8],
+    answer: &mut Answer,
+) {
+    let [addresses, numbers, _, tape, output] = buffers.to_write();
+    match program {
+        Program::Words { words, budget } => {
+            call!(ola_traced_run_words(words; budget, machine; addresses, numbers, tape, output, sheet; answer), as_mut_ptr)
+        }
+        Program::Text { text, budget } => {
+            call!(ola_traced_run_text(text; budget, machine; addresses, numbers, tape, output, sheet; answer), as_mut_ptr)
+        }
+        Program::BudgetText { text } => {
+            call!(ola_traced_run_budget_text(text; machine; addresses, numbers, tape, output, sheet; answer), as_mut_ptr)
+        }
+    }
+}
+
 /// One plain step.
 pub fn step<B: AsMut<[u64]>>(
     words: &[u64],
@@ -114,7 +138,8 @@ pub fn guarded_step<B: AsMut<[u64]>>(
     call!(ola_guarded_step_words(words; machine, extras; addresses, numbers, marks, tape, output; answer), as_mut_ptr)
 }
 
-/// What a plain run would be refused with before its first step; outcome e3 after 0 steps where it would begin. The budget does not matter.
+/// What a plain or a traced run would be refused with before its first step; outcome e3 after 0 steps where it would begin. The budget does
+/// not matter.
 pub fn check<B: AsRef<[u64]>>(
     program: Program,
     machine: &Machine,
@@ -172,6 +197,18 @@ impl Lent {
             &mut self.machine,
             &mut self.extras,
             &mut self.buffers,
+            &mut answer,
+        );
+        answer
+    }
+
+    pub fn traced_run(&mut self, program: Program, sheet: &mut [u8]) -> Answer {
+        let mut answer = Answer::default();
+        traced_run(
+            program,
+            &mut self.machine,
+            &mut self.buffers,
+            sheet,
             &mut answer,
         );
         answer

@@ -11,6 +11,9 @@ pub const MOST_VALUES: usize = 4096;
 /// clk is below it where a run starts.
 pub const CLOCK_END: u64 = 1_000_000_000_000;
 
+/// The bytes of a line of the sheet, which a traced run writes for each step.
+pub const LINE_BYTES: usize = 257;
+
 /// The numbers of outcomes.
 pub mod outcome {
     pub const ENDED: u64 = 0;
@@ -39,6 +42,7 @@ pub mod refusal {
     pub const NO_CAPACITY: u64 = 16;
     pub const CLOCK_END_REACHED: u64 = 17;
     pub const MARKED_SINK: u64 = 18;
+    pub const SHORT_BUFFER: u64 = 19;
 }
 
 /// A machine, in the order of the record's words.
@@ -113,7 +117,7 @@ pub enum Program<'a> {
 pub struct Buffers<B = Vec<u64>> {
     pub addresses: B,
     pub numbers: B,
-    /// For guarded calls; plain calls do not look at it.
+    /// For guarded calls; other calls do not look at it.
     pub marks: B,
     pub tape: B,
     pub output: B,

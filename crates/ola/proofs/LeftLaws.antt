@@ -11,8 +11,9 @@ use Rattle.rules.specs.Answers.{Meaning, meaning}
 use Rattle.rules.specs.Entry.{Snapshot, GuardedSnapshot}
 use Rattle.rules.specs.Calls.{Called}
 use Rattle.rules.specs.Handed.{snapshot, guardedSnapshot, called, guardedCalled}
+use Rattle.sheets.specs.TracedCalls.{TracedSnapshot, tracedSnapshot, tracedCalled}
 use Rattle.records.specs.Records.{machineRecord, marksRecord, answerRecord}
-use Rattle.ola.specs.Lent.{buffers, guardedBuffers, plainLeft, guardedLeft}
+use Rattle.ola.specs.Lent.{buffers, guardedBuffers, tracedBuffers, plainLeft, guardedLeft, tracedLeft}
 
 -- a name with ₀ is what was handed in
 module _ {given machine₀ : Machine} {xs ns tape output xs₀ ns₀ tape₀ output₀ answer machine : List ℕ} where
@@ -38,6 +39,15 @@ module _ {given machine₀ : Machine} {xs ns tape output xs₀ ns₀ tape₀ out
       ∙ ap (λ (x : List ℕ).
       guardedBuffers (answerRecord (meaning (r .answer)) (r .steps)) (machineRecord (r .machine)) x xs ns ts tape output) x
       ∙ ap guardedLeft (h ∙ ap₂ (λ (m : Machine) (k : Marks). call (guardedSnapshot m k xs₀ ns₀ ts₀ tape₀ output₀)) e k)
+
+  pub traced-left : {sheet sheet₀ : List ℕ} (r : Ran) (call : TracedSnapshot → Called TracedSnapshot) → given ≡ machine₀
+      → tracedCalled r xs ns tape output sheet ≡ call (tracedSnapshot given xs₀ ns₀ tape₀ output₀ sheet₀)
+      → answer ≡ answerRecord (meaning (r .answer)) (r .steps)
+      → machine ≡ machineRecord (r .machine)
+      → tracedBuffers answer machine xs ns tape output sheet ≡ tracedLeft (call (tracedSnapshot machine₀ xs₀ ns₀ tape₀ output₀ sheet₀))
+  traced-left {sheet} {sheet₀} r call e h a m =
+      ap₂ (λ (a m : List ℕ). tracedBuffers a m xs ns tape output sheet) a m
+      ∙ ap tracedLeft (h ∙ ap (λ (m : Machine). call (tracedSnapshot m xs₀ ns₀ tape₀ output₀ sheet₀)) e)
 
 module _ {given machine₀ : Machine} {xs₀ ns₀ tape₀ output₀ answer : List ℕ} where
   pub plain-checked : (a : Answer) (call : Snapshot → Called Snapshot) → given ≡ machine₀

@@ -3,6 +3,7 @@ use Prim.Native.Nat.{ℕ}
 use mathlib.Core.List.{List}
 use Rattle.rules.specs.Entry.{Snapshot, GuardedSnapshot}
 use Rattle.rules.specs.Calls.{Called}
+use Rattle.sheets.specs.TracedCalls.{TracedSnapshot}
 use Rattle.records.specs.Records.{machineRecord, marksRecord, answerRecord}
 
 -- all that a plain call writes: two records, and the machine's buffers
@@ -20,6 +21,11 @@ pub record GuardedBuffers : Type 0 where
   pub extras : List ℕ
   pub marks : List ℕ
 
+-- a traced call also writes the sheet
+pub record TracedBuffers : Type 0 where
+  pub plain : Buffers
+  pub sheet : List ℕ
+
 abbrev pub buffers : List ℕ → List ℕ → List ℕ → List ℕ → List ℕ → List ℕ → Buffers
 buffers answer machine xs ns tape output =
     record { answer = answer; machine = machine; addresses = xs; numbers = ns; tape = tape; output = output }
@@ -27,6 +33,9 @@ buffers answer machine xs ns tape output =
 abbrev pub guardedBuffers : List ℕ → List ℕ → List ℕ → List ℕ → List ℕ → List ℕ → List ℕ → List ℕ → GuardedBuffers
 guardedBuffers answer machine extras xs ns ts tape output =
     record { plain = buffers answer machine xs ns tape output; extras = extras; marks = ts }
+
+abbrev pub tracedBuffers : List ℕ → List ℕ → List ℕ → List ℕ → List ℕ → List ℕ → List ℕ → TracedBuffers
+tracedBuffers answer machine xs ns tape output sheet = record { plain = buffers answer machine xs ns tape output; sheet = sheet }
 
 abbrev leftIn : List ℕ → Snapshot → Buffers
 leftIn answer s = buffers answer (machineRecord (s .machine)) (s .addresses) (s .numbers) (s .tape) (s .output)
@@ -42,3 +51,6 @@ guardedLeft c =
       extras = marksRecord (c .left .extras);
       marks = c .left .marks;
     }
+
+abbrev pub tracedLeft : Called TracedSnapshot → TracedBuffers
+tracedLeft c = record { plain = leftIn (answerRecord (c .answer) (c .steps)) (c .left .plain); sheet = c .left .sheet }

@@ -15,7 +15,8 @@ pub record ShowsEarliest (f : Numbered) (answer : List ℕ) : Type 0 where
   pub carries : getD answer 0 0 ≡ 1 → getD answer 1 0 ≡ 2 → ToCarry f (getD answer 3 0)
   pub refuses : (n : ℕ) → ToCarry f n → answer ≡ 1 ∷ 2 ∷ 0 ∷ n ∷ 0 ∷ 0 ∷ 0 ∷ 0 ∷ []
 
--- each exported function that can answer 2: the answer that its contract names
+-- each exported function of a plain or guarded call that can answer 2: the answer that its contract names. A traced call is refused 2
+-- exactly where the plain call is, and with the same number (`SameRun` in crates/sheets/specs)
 pub record RecordsShowEarliest : Type 0 where
   pub runWords : (words : List ℕ) (budget : ℕ) (s : Snapshot) → ShowsEarliest (numberedWords words) (plainLeft (plainWords words budget s) .answer)
   pub stepWords : (words : List ℕ) (s : Snapshot) → ShowsEarliest (numberedWords words) (plainLeft (plainWords words 1 s) .answer)

@@ -3,7 +3,7 @@
 //
 // For each of the two runs, in plain_calls.rt and guarded_calls.rt: the run of a program as bare words, as text, and as text with a budget
 // line; one step of bare words; and for the three forms the check, which only reads all but its answer: what a run is refused with at
-// entry, else e3.
+// entry, else e3. In traced_calls.rt: the plain run in the three forms, which also writes a step sheet into a buffer of bytes.
 //
 // A machine is a record of 20 words: registers 0 to 9, pc, clk, psp, the four words of the storage address, and the counts of used cells,
 // tape values and output values. The extras of a guarded call are a record of 1 word, whose bit r is the mark of register r. An answer is a
@@ -15,6 +15,7 @@
 // include/ola.h is the same for a person.
 mod guarded_calls;
 mod plain_calls;
+mod traced_calls;
 
 ghost use mathlib.Core.Path.{_≡_};
 ghost use Rattle.rules.specs.Solve.{kilosteps};

@@ -1,7 +1,9 @@
-//! The step machine from Rust: a solve in one call, step by step, with a pause, refused, and with a secret. Prints what
-//! examples/expected.txt has.
+//! The step machine from Rust: a solve in one call, step by step, with a pause, refused, with a secret, and with a sheet, shown as a table.
+//! Prints what examples/expected.txt has.
 
-use ola::{kilosteps, Answer, Lent, Machine, Program};
+mod table;
+
+use ola::{kilosteps, Answer, Lent, Machine, Program, LINE_BYTES};
 
 /// Doubles 5, stores it in cell 3, hands it back.
 const DOUBLING: [u64; 9] = [
@@ -24,12 +26,30 @@ const GUESSING: [u64; 4] = [
     0x000000000000000b, // END
 ];
 
+/// Adds up 1 and 2, and hands the sum back.
+const ADDING_UP: [u64; 13] = [
+    0x0020000200008a00, // ADD r1, 1 to r1
+    1,
+    0x0040080400009200, // ADD r2, r1 to r2
+    0x0020000800008a11, // NEQ r1, 2 to r3
+    2,
+    0x0080000000000a06, // CJMP on r3 to 0
+    0,
+    0x0010000400008a0a, // MSTORE r2 to cell r0 + 3
+    3,
+    0x0000000000000917, // TSTORE of one cell from 3
+    3,
+    1,
+    0x000000000000000b, // END
+];
+
 fn main() {
     in_one_call();
     step_by_step();
     with_a_pause();
     refused();
     with_a_secret();
+    with_a_sheet();
 }
 
 fn doubling(budget: u64) -> Program<'static> {
@@ -89,6 +109,20 @@ fn with_a_secret() {
     let answer = lent.guarded_run(program);
     print_answer("with a secret", &answer, &lent.machine);
     println!("marked registers: {:x}", lent.extras.registers);
+}
+
+/// A line of the sheet for each step.
+fn with_a_sheet() {
+    let mut lent = Lent::default();
+    let mut sheet = [0; 20 * LINE_BYTES];
+    let program = Program::Words {
+        words: &ADDING_UP,
+        budget: 100,
+    };
+    let answer = lent.traced_run(program, &mut sheet);
+    print_answer("with a sheet", &answer, &lent.machine);
+    let used = answer.steps as usize * LINE_BYTES;
+    print!("{}", table::of(&sheet[..used]));
 }
 
 fn print_answer(what: &str, answer: &Answer, machine: &Machine) {
