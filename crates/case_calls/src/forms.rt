@@ -20,6 +20,7 @@ pub(crate) fn enter(
     marks: &mut [u64],
     tape: &mut [u64],
     output: &mut [u64],
+    sheet: &mut [u8],
 ) -> Ran {
     match run {
         Run::Plain => enter_plain(form, words, text, machine, addresses, numbers, tape, output),
@@ -34,6 +35,17 @@ pub(crate) fn enter(
             marks,
             tape,
             output,
+        ),
+        Run::Traced => enter_traced(
+            form,
+            words,
+            text,
+            machine,
+            addresses,
+            numbers,
+            tape,
+            output,
+            sheet,
         ),
     }
 }
@@ -116,5 +128,48 @@ fn enter_guarded(
             tape,
             output,
         ),
+    }
+}
+
+fn enter_traced(
+    form: Form,
+    words: &[u64],
+    text: &[u8],
+    machine: Machine,
+    addresses: &mut [u64],
+    numbers: &mut [u64],
+    tape: &mut [u64],
+    output: &mut [u64],
+    sheet: &mut [u8],
+) -> Ran {
+    match form {
+        Form::Step => traced::run_words(words, 1, machine, addresses, numbers, tape, output, sheet),
+        Form::Words(budget) => {
+            traced::run_words(
+                words,
+                budget,
+                machine,
+                addresses,
+                numbers,
+                tape,
+                output,
+                sheet,
+            )
+        }
+        Form::Text(budget) => {
+            traced::run_text(
+                text,
+                budget,
+                machine,
+                addresses,
+                numbers,
+                tape,
+                output,
+                sheet,
+            )
+        }
+        Form::BudgetText => {
+            traced::run_budget_text(text, machine, addresses, numbers, tape, output, sheet)
+        }
     }
 }

@@ -3,6 +3,7 @@
 mod forms;
 
 use case_fields::buffers::fill;
+use case_fields::buffers::fill_sheet;
 use case_fields::buffers::put_buffers;
 use case_fields::machines::machine_of;
 use case_fields::machines::put_machine;
@@ -17,9 +18,11 @@ use rules::Ran;
 pub enum Run {
     Plain,
     Guarded,
+    Traced,
 }
 
-// The library's functions that a case can ask for, each plain and guarded; some take a budget. `Step` steps a record where it is kept.
+// The library's functions that a case can ask for, each plain, guarded and traced; some take a budget. `Step` steps a record where it is
+// kept; a traced step is a run with a budget of 1.
 pub enum Form {
     Step,
     Words(u64),
@@ -40,6 +43,7 @@ pub fn call(run: Run, form: Form, text: &[u8], fields: &Fields, next: &mut Field
     let mut marks = [0u64; LONGEST];
     let mut tape = [0u64; LONGEST];
     let mut output = [0u64; LONGEST];
+    let mut sheet = [0u8; LONGEST];
     let addresses_length = fill(
         fields,
         parts::ADDRESSES,
@@ -50,6 +54,7 @@ pub fn call(run: Run, form: Form, text: &[u8], fields: &Fields, next: &mut Field
     let marks_length = fill(fields, parts::MARKS, parts::MARKS_LENGTH, &mut marks);
     let tape_length = fill(fields, parts::TAPE, parts::TAPE_LENGTH, &mut tape);
     let output_length = fill(fields, parts::OUTPUT, parts::OUTPUT_LENGTH, &mut output);
+    let sheet_length = fill_sheet(fields, &mut sheet);
     let ran = forms::enter(
         run,
         form,
@@ -62,8 +67,9 @@ pub fn call(run: Run, form: Form, text: &[u8], fields: &Fields, next: &mut Field
         &mut marks[..marks_length],
         &mut tape[..tape_length],
         &mut output[..output_length],
+        &mut sheet[..sheet_length],
     );
-    put_buffers(&addresses, &numbers, &marks, &tape, &output, next);
+    put_buffers(&addresses, &numbers, &marks, &tape, &output, &sheet, next);
     let left = ran.machine;
     put_machine(left, next);
     put_extras(run, ran.extras, next);
@@ -76,12 +82,13 @@ fn words_of(fields: &Fields) -> &[u64] {
     report::used_output(count, &all[1..parts::PART])
 }
 
-// A plain call is not handed the marks of the registers, and leaves them.
+// Only a guarded call is handed the marks of the registers; the others leave them.
 fn put_extras(run: Run, extras: Marks, fields: &mut Fields) {
     match run {
         Run::Plain => {}
         Run::Guarded => {
             fields[parts::REGISTER_MARKS] = extras.registers;
         }
+        Run::Traced => {}
     }
 }

@@ -12,6 +12,15 @@ pub fn clear(fields: &mut Fields) {
     read_numbers(b"used 0 0 0", parts::USED, fields);
     read_numbers(b"buffers 800 800 800 1000 1000", parts::BUFFERS, fields);
     read_numbers(b"text 0", parts::TEXT, fields);
+    read_numbers(b"sheet 1001", parts::SHEET_LINE, fields);
+}
+
+// The second letter of a line, which is looked at where two words begin with the same.
+pub fn second_letter(line: &[u8]) -> u8 {
+    if line.len() < 2 {
+        return b' ';
+    }
+    line[1]
 }
 
 // Takes what a line gives, by its first letter, and says whether it is understood.
@@ -21,7 +30,12 @@ pub fn read_line(letter: u8, line: &[u8], text: &mut [u8], fields: &mut Fields) 
         b'l' => text::add_line(line, text, fields),
         b'z' => text::add_zeros(line, text, fields),
         b'r' => read_numbers(line, parts::REGISTERS, fields),
-        b's' => read_numbers(line, parts::STATE, fields),
+        b's' => {
+            if second_letter(line) == b'h' {
+                return read_numbers(line, parts::SHEET_LINE, fields);
+            }
+            read_numbers(line, parts::STATE, fields)
+        }
         b'u' => read_numbers(line, parts::USED, fields),
         b'b' => read_numbers(line, parts::BUFFERS, fields),
         b'a' => read_numbers(line, parts::ADDRESSES, fields),

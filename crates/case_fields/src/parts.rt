@@ -32,11 +32,16 @@ pub(crate) const ZEROS: usize = 11 * PART;
 
 pub(crate) const TEXT: usize = 12 * PART;
 
-pub const SIZE: usize = 13 * PART;
+// What the line `sheet` gives, and the bytes of the sheet, one to a place.
+pub(crate) const SHEET_LINE: usize = 13 * PART;
+
+pub const SHEET: usize = 14 * PART;
+
+pub const SIZE: usize = 15 * PART;
 
 pub type Fields = [u64; SIZE];
 
-// What stands where no line has put anything.
+// What stands where no line has put anything. Of a place of the sheet only the low byte counts, so that each is 0xEE.
 pub const UNUSED: u64 = 0xEEEE_EEEE_EEEE_EEEE;
 
 // The word of the registers' marks, after the ten registers.
@@ -56,6 +61,8 @@ pub const MARKS_LENGTH: usize = BUFFERS + 3;
 pub const TAPE_LENGTH: usize = BUFFERS + 4;
 
 pub const OUTPUT_LENGTH: usize = BUFFERS + 5;
+
+pub const SHEET_LENGTH: usize = SHEET_LINE + 1;
 
 // How many bytes the text has.
 pub const TEXT_LENGTH: usize = TEXT + 1;

@@ -4,6 +4,7 @@ use crate::show::print;
 use case_calls::Run;
 use case_fields::lines::clear;
 use case_fields::lines::read_line;
+use case_fields::lines::second_letter;
 use case_fields::parts::Fields;
 
 // Does what the line says, or says that it is not understood.
@@ -32,14 +33,19 @@ fn is_understood(line: &[u8], text: &mut [u8], fields: &mut Fields) -> bool {
             clear(fields);
             true
         }
-        b'p' => {
-            repeat(line);
-            play_case(Run::Plain, line, text, fields)
-        }
-        b'g' => {
-            repeat(line);
-            play_case(Run::Guarded, line, text, fields)
+        b'p' => repeat_and_play(Run::Plain, line, text, fields),
+        b'g' => repeat_and_play(Run::Guarded, line, text, fields),
+        b't' => {
+            if second_letter(line) == b'r' {
+                return repeat_and_play(Run::Traced, line, text, fields);
+            }
+            read_line(b't', line, text, fields)
         }
         letter => read_line(letter, line, text, fields),
     }
+}
+
+fn repeat_and_play(run: Run, line: &[u8], text: &[u8], fields: &mut Fields) -> bool {
+    repeat(line);
+    play_case(run, line, text, fields)
 }

@@ -1,4 +1,6 @@
 // What is written of a call.
+use case_fields::buffers::fill_sheet;
+use case_fields::buffers::put_bytes;
 use case_fields::parts;
 use case_fields::parts::Fields;
 use case_fields::parts::LONGEST;
@@ -7,7 +9,10 @@ use hexadecimal::Put;
 use libc::STDOUT_FILENO;
 use rules::Answer;
 use rules::Ran;
-ghost use Rattle.case_fields.specs.Parts.{IsPart};
+use traced::LINE_BYTES;
+ghost use Prim.Native.Nat.{_≤_, _<_};
+ghost use lib.ListN.{length};
+ghost use Rattle.case_fields.specs.Parts.{IsPart, longest};
 
 // More than the longest line of an answer.
 const LINE_SIZE: usize = 128;
@@ -36,6 +41,7 @@ pub(crate) fn show(ran: Ran, fields: &Fields, shown: &mut Fields) {
     show_changes(b"marks", parts::MARKS, fields, shown);
     show_changes(b"tape", parts::TAPE, fields, shown);
     show_changes(b"output", parts::OUTPUT, fields, shown);
+    show_sheet(fields, shown);
 }
 
 // The line that `solve` prints.
@@ -102,4 +108,47 @@ fn show_change(name: &[u8], named: bool, place: usize, before: u64, now: u64) ->
     print_word(b" ", place as u64);
     print_word(b"=", now);
     true
+}
+
+// Each piece of the sheet that is not as it was last shown.
+fn show_sheet(fields: &Fields, shown: &mut Fields) {
+    let mut sheet = [0u8; LONGEST];
+    let length = fill_sheet(fields, &mut sheet);
+    show_pieces(&sheet[..length], shown);
+}
+
+fn show_pieces(sheet: &[u8], shown: &mut Fields)
+    requires { ⌜ length (now sheet) ≤ longest ⌝ }
+{
+    let mut piece = 0;
+    let mut from = 0;
+    while from < sheet.len() {
+        let end = piece_end(from, sheet.len());
+        if put_bytes(&sheet[from..end], from, shown) {
+            print_word(b"sheet ", piece);
+            print(b" ");
+            print_line(&sheet[from..end]);
+        }
+        piece += 1;
+        from = end;
+    }
+}
+
+// Where the piece from a place on ends: the last one may be shorter.
+fn piece_end(from: usize, length: usize) -> usize
+    requires { ⌜ from < length ⌝ }
+    ensures { λ r. ⌜ (from < r) × (r ≤ length) ⌝ }
+{
+    if length - from < LINE_BYTES {
+        return length;
+    }
+    from + LINE_BYTES
+}
+
+// A text as a line, whether its line feed is in it or not.
+fn print_line(text: &[u8]) {
+    print(text);
+    if text.len() == 0 || text[text.len() - 1] != b'\n' {
+        print(b"\n");
+    }
 }
