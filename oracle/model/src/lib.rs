@@ -16,3 +16,4 @@ pub mod predict;
 pub mod reading;
 pub mod sinks;
 pub mod state;
+pub mod traced;

@@ -24,3 +24,5 @@ pub const MOST_BYTES: usize = 65_536;
 pub const MOST_CELLS: usize = 2048;
 /// The greatest capacity of the tape, and of the output.
 pub const MOST_VALUES: usize = 4096;
+/// Of a line of a sheet: 16 words of 16 digits, and a line feed.
+pub const LINE_BYTES: usize = 257;

@@ -40,6 +40,22 @@ pub fn predict(program: Program, start: &Lent, run: Run) -> Prediction {
     }
 }
 
+/// The same for a traced call, which is lent a sheet too.
+pub fn predict_traced(program: Program, start: &Lent, sheet: &mut [u8]) -> Prediction {
+    let (frames, budget) = match enter(program, start, Run::Plain) {
+        Ok(entered) => entered,
+        Err(refusal) => return refused(refusal, start),
+    };
+    let mut model = plain_model(start);
+    let answer = model.traced_run(&Code::new(&frames), budget, sheet);
+    Prediction {
+        answer,
+        left: left_plain(start, &model),
+        sink: None,
+        refusal: None,
+    }
+}
+
 fn refused(refusal: Refusal, start: &Lent) -> Prediction {
     let answer = Answer {
         refused: 1,

@@ -5,8 +5,9 @@ use ola::{Buffers, Lent, Machine, Marks, Program, MOST_CELLS, MOST_VALUES};
 /// The greatest capacity that a case may give: one more than is ever in order.
 const MOST_LENT: u64 = MOST_VALUES as u64 + 1;
 
-/// What stands in the places of a lent buffer that no line gives.
+/// What stands in the places of a lent buffer that no line gives, and in every byte of the sheet.
 const UNUSED: u64 = 0xEEEE_EEEE_EEEE_EEEE;
+const UNUSED_BYTE: u8 = 0xEE;
 
 pub struct Case {
     words: Option<Vec<u64>>,
@@ -16,6 +17,8 @@ pub struct Case {
     /// The first places of addresses, numbers, marks, tape and output.
     given: [Vec<u64>; 5],
     capacities: [u64; 5],
+    /// The bytes of the sheet.
+    sheet: u64,
 }
 
 impl Default for Case {
@@ -28,6 +31,7 @@ impl Default for Case {
             given: Default::default(),
             capacities: [MOST_CELLS, MOST_CELLS, MOST_CELLS, MOST_VALUES, MOST_VALUES]
                 .map(|count| count as u64),
+            sheet: MOST_LENT,
         }
     }
 }
@@ -35,8 +39,8 @@ impl Default for Case {
 impl Case {
     /// Takes a line in; None where it is not understood.
     pub fn take(&mut self, line: &[u8]) -> Option<()> {
-        let kind = line.first()?;
-        if *kind == b'l' {
+        let kind = line.first_chunk()?;
+        if kind == b"li" {
             self.text.extend(rest_of(line).unwrap_or_default());
             self.text.push(b'\n');
             return Some(());
@@ -44,23 +48,29 @@ impl Case {
         let numbers = numbers_of(line)?;
         let machine = &mut self.machine;
         match kind {
-            b'w' => self.words = Some(numbers),
-            b'z' => {
+            b"wo" => self.words = Some(numbers),
+            b"ze" => {
                 let [count] = numbers[..] else { return None };
                 self.text.resize(self.text.len() + count as usize, b'0');
             }
-            b'r' => {
+            b"re" => {
                 let places = machine
                     .registers
                     .iter_mut()
                     .chain([&mut self.extras.registers]);
                 put(numbers, places)?;
             }
-            b's' => {
+            b"st" => {
                 let places = [&mut machine.pc, &mut machine.clk, &mut machine.psp];
                 put(numbers, places.into_iter().chain(&mut machine.storage_addr))?;
             }
-            b'u' => {
+            b"sh" => {
+                if numbers.iter().any(|number| *number > MOST_LENT) {
+                    return None;
+                }
+                put(numbers, [&mut self.sheet])?;
+            }
+            b"us" => {
                 let counts = [
                     &mut machine.cell_count,
                     &mut machine.tape_count,
@@ -68,23 +78,23 @@ impl Case {
                 ];
                 put(numbers, counts)?;
             }
-            b'b' => {
+            b"bu" => {
                 if numbers.iter().any(|number| *number > MOST_LENT) {
                     return None;
                 }
                 put(numbers, &mut self.capacities)?;
             }
-            b'a' => self.given[0] = numbers,
-            b'n' => self.given[1] = numbers,
-            b'm' => self.given[2] = numbers,
-            b't' => self.given[3] = numbers,
-            b'o' => self.given[4] = numbers,
+            b"ad" => self.given[0] = numbers,
+            b"nu" => self.given[1] = numbers,
+            b"ma" => self.given[2] = numbers,
+            b"ta" => self.given[3] = numbers,
+            b"ou" => self.given[4] = numbers,
             _ => return None,
         }
         Some(())
     }
 
-    /// The budget of a line plain or guarded, if it has one; None where the line is not understood.
+    /// The budget of a line plain, guarded or traced, if it has one; None where the line is not understood.
     pub fn budget_of(&self, line: &[u8]) -> Option<Option<u64>> {
         match numbers_of(line)?[..] {
             [] => Some(None),
@@ -121,6 +131,11 @@ impl Case {
                 output: buffer(4),
             },
         }
+    }
+
+    /// The sheet of traced calls.
+    pub fn sheet(&self) -> Vec<u8> {
+        vec![UNUSED_BYTE; self.sheet as usize]
     }
 }
 

@@ -17,11 +17,13 @@ pub trait Implementation {
     fn plain(program: Program, lent: &mut Lent) -> Answer;
     /// A guarded call.
     fn guarded(program: Program, lent: &mut Lent) -> Answer;
+    /// A traced call.
+    fn traced(program: Program, lent: &mut Lent, sheet: &mut [u8]) -> Answer;
     fn kilosteps(clk: u64) -> u64;
 }
 
-/// One of an implementation's two calls.
-type Call = fn(Program, &mut Lent) -> Answer;
+/// One of an implementation's calls; traced calls alone write to the sheet.
+type Call = fn(Program, &mut Lent, &mut [u8]) -> Answer;
 
 /// From standard input to standard output. `name` is the program's, for its messages.
 pub fn main<I: Implementation>(name: &str) -> ExitCode {
@@ -50,16 +52,17 @@ fn play<I: Implementation>(input: &[u8]) -> Result<Vec<u8>, String> {
     let mut output = vec![];
     let mut case = Case::default();
     for (number, line) in (1..).zip(input.split(|byte| *byte == b'\n')) {
-        let understood = match line.first() {
-            None | Some(b'#') => Some(()),
-            Some(b'c') => {
+        let understood = match line {
+            [] | [b'#', ..] => Some(()),
+            [b'c', b'a', ..] => {
                 case = Case::default();
                 repeat(line, &mut output);
                 Some(())
             }
-            Some(b'p') => play_case::<I>(&case, line, I::plain, &mut output),
-            Some(b'g') => play_case::<I>(&case, line, I::guarded, &mut output),
-            Some(_) => case.take(line),
+            [b'p', b'l', ..] => play_case::<I>(&case, line, plain::<I>, &mut output),
+            [b'g', b'u', ..] => play_case::<I>(&case, line, guarded::<I>, &mut output),
+            [b't', b'r', ..] => play_case::<I>(&case, line, I::traced, &mut output),
+            _ => case.take(line),
         };
         understood.ok_or_else(|| {
             let line = line.escape_ascii();
@@ -67,6 +70,14 @@ fn play<I: Implementation>(input: &[u8]) -> Result<Vec<u8>, String> {
         })?;
     }
     Ok(output)
+}
+
+fn plain<I: Implementation>(program: Program, lent: &mut Lent, _: &mut [u8]) -> Answer {
+    I::plain(program, lent)
+}
+
+fn guarded<I: Implementation>(program: Program, lent: &mut Lent, _: &mut [u8]) -> Answer {
+    I::guarded(program, lent)
 }
 
 /// Step after step, and again in one call; a text with a budget line in one call alone. None where the line is not understood.
@@ -78,20 +89,19 @@ fn play_case<I: Implementation>(
 ) -> Option<()> {
     let budget = case.budget_of(line)?;
     repeat(line, output);
-    let start = case.lent();
-    let mut transcript = Transcript::new(&start);
-    let mut lent = start.clone();
+    let (mut lent, mut sheet) = (case.lent(), case.sheet());
+    let mut transcript = Transcript::new(&lent, &sheet);
     for _ in 0..budget.unwrap_or(0) {
-        let answer = call(case.program(Some(1)), &mut lent);
-        transcript.write::<I>(&answer, &lent, output);
+        let answer = call(case.program(Some(1)), &mut lent, &mut sheet);
+        transcript.write::<I>(&answer, &lent, &sheet, output);
         if !answer.is_paused() {
             break;
         }
     }
-    let mut lent = start;
-    let answer = call(case.program(budget), &mut lent);
+    let (mut lent, mut sheet) = (case.lent(), case.sheet());
+    let answer = call(case.program(budget), &mut lent, &mut sheet);
     output.extend(b"run ");
-    transcript.write::<I>(&answer, &lent, output);
+    transcript.write::<I>(&answer, &lent, &sheet, output);
     Some(())
 }
 

@@ -8,19 +8,30 @@ use crate::Implementation;
 
 const ENTRY_REFUSALS: u64 = 3;
 
+/// A sheet is shown in pieces of a line's bytes.
+const PIECE: usize = ola::LINE_BYTES;
+
 pub struct Transcript {
     /// What was last written of each part.
     shown: Vec<(&'static str, Vec<u64>)>,
+    shown_sheet: Vec<u8>,
 }
 
 impl Transcript {
-    pub fn new(start: &Lent) -> Transcript {
+    pub fn new(start: &Lent, sheet: &[u8]) -> Transcript {
         Transcript {
             shown: parts(start),
+            shown_sheet: sheet.to_vec(),
         }
     }
 
-    pub fn write<I: Implementation>(&mut self, answer: &Answer, now: &Lent, output: &mut Vec<u8>) {
+    pub fn write<I: Implementation>(
+        &mut self,
+        answer: &Answer,
+        now: &Lent,
+        sheet: &[u8],
+        output: &mut Vec<u8>,
+    ) {
         let kilosteps = I::kilosteps(now.machine.clk);
         write_answer(answer, now, kilosteps, output);
         if answer.steps != 0 {
@@ -42,6 +53,22 @@ impl Transcript {
             writeln!(output, "{name}{changes}").unwrap();
         }
         self.shown = now;
+        self.write_sheet(sheet, output);
+    }
+
+    /// The bytes of a piece as they are: a line of the sheet ends its own line here.
+    fn write_sheet(&mut self, sheet: &[u8], output: &mut Vec<u8>) {
+        let pieces = self.shown_sheet.chunks(PIECE).zip(sheet.chunks(PIECE));
+        for (place, (shown, now)) in pieces.enumerate() {
+            if shown != now {
+                write!(output, "sheet {place:x} ").unwrap();
+                output.extend(now);
+                if !now.ends_with(b"\n") {
+                    output.push(b'\n');
+                }
+            }
+        }
+        self.shown_sheet.copy_from_slice(sheet);
     }
 }
 

@@ -41,6 +41,38 @@ fn bytes_of_a_program_line_are_those_of_the_text() {
 }
 
 #[test]
+fn two_characters_of_a_first_word_are_enough() {
+    let case = |tape: &str, state: &str, sheet: &str, traced: &str| {
+        let input = format!(
+            "case 1\nwords 4916 0 0 5 b\nused 0 1\n{tape} 7\n{state} 2\n{sheet} 101\n{traced} 1\n"
+        );
+        play(input.as_bytes()).stdout
+    };
+    let whole = case("tape", "state", "sheet", "traced");
+    let short = case("ta", "st", "sh", "tr");
+    let answers = |output: &[u8]| {
+        let text = String::from_utf8_lossy(output);
+        text.lines().skip(2).map(str::to_string).collect::<Vec<_>>()
+    };
+    assert_eq!(answers(&whole), answers(&short));
+    assert_eq!(answers(&short)[0], "e0 1 3 1 0");
+}
+
+#[test]
+fn a_sheet_shows_each_line_that_is_new() {
+    // MOV - 5 R1, END; the sheet has bytes for one line.
+    let played = play(b"case 1\nwords 200008804 5 b\nsheet 200\ntraced 2\n");
+    let zeros = |count: usize| "0".repeat(16 * count);
+    let word = |number: u64| format!("{number:016x}");
+    let first = [zeros(13), word(5), word(5), word(6)].concat();
+    let second = [word(1), word(2), zeros(1), word(5), zeros(12)].concat();
+    let expected = format!(
+        "case 1\ntraced 2\ne3 1 2 1 0\nregisters 1=5\nsheet 0 {first}\ne0 1 3 2 0\nsheet 0 {second}\nrun 19 1 2 1 0\nsheet 0 {first}\n"
+    );
+    assert_eq!(String::from_utf8_lossy(&played.stdout), expected);
+}
+
+#[test]
 fn a_line_that_is_not_understood_is_named() {
     for (line, shown) in [
         (&b"words b  b"[..], "words b  b"),
@@ -61,6 +93,12 @@ fn a_line_that_is_not_understood_is_named() {
         (b"plain 1 2", "plain 1 2"),
         (b"plain 1 ", "plain 1 "),
         (b"guarded x", "guarded x"),
+        (b"traced 1 2", "traced 1 2"),
+        (b"sheet 1002", "sheet 1002"),
+        (b"sheet 1 1", "sheet 1 1"),
+        (b"t 1", "t 1"),
+        (b"s 1", "s 1"),
+        (b"p", "p"),
         (b"xyz", "xyz"),
     ] {
         let input = [b"# a comment\n\ncase 1\n", line, b"\n"].concat();

@@ -23,6 +23,10 @@ impl Implementation for Library {
         }
     }
 
+    fn traced(program: Program, lent: &mut Lent, sheet: &mut [u8]) -> Answer {
+        lent.traced_run(program, sheet)
+    }
+
     fn kilosteps(clk: u64) -> u64 {
         ola::kilosteps(clk)
     }

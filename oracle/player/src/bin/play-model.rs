@@ -3,7 +3,7 @@
 use std::process::ExitCode;
 
 use model::entry::Run;
-use model::predict::predict;
+use model::predict::{predict, predict_traced, Prediction};
 use ola::{Answer, Lent, Program};
 use player::Implementation;
 
@@ -11,11 +11,15 @@ struct Model;
 
 impl Implementation for Model {
     fn plain(program: Program, lent: &mut Lent) -> Answer {
-        call(program, lent, Run::Plain)
+        take(predict(program, lent, Run::Plain), lent)
     }
 
     fn guarded(program: Program, lent: &mut Lent) -> Answer {
-        call(program, lent, Run::Guarded)
+        take(predict(program, lent, Run::Guarded), lent)
+    }
+
+    fn traced(program: Program, lent: &mut Lent, sheet: &mut [u8]) -> Answer {
+        take(predict_traced(program, lent, sheet), lent)
     }
 
     fn kilosteps(clk: u64) -> u64 {
@@ -23,8 +27,7 @@ impl Implementation for Model {
     }
 }
 
-fn call(program: Program, lent: &mut Lent, run: Run) -> Answer {
-    let prediction = predict(program, lent, run);
+fn take(prediction: Prediction, lent: &mut Lent) -> Answer {
     *lent = prediction.left;
     prediction.answer
 }
