@@ -7,6 +7,7 @@ use model::state::State;
 
 use crate::case::Case;
 use crate::outcome::Outcome;
+use crate::rows::{row_of, words_of};
 use crate::stepper::{Mode, Stepper};
 
 pub const FORMAT: &str = "\
@@ -27,6 +28,7 @@ pub const FORMAT: &str = "\
 #   +tape VALUES                   values that went to the tape's end
 #   +output VALUES                 values that went to the output's end
 #   -output                        the output became empty
+#   row WORDS                      where it is traced: the row, as the 16 words of a line of the sheet
 # then, where the next step was refused, the state that the Rust left, of which pc and cells are not compared:
 #   left PC CLK R0 .. R9           with the same + lines below it
 # and last one of these, NUMBER being document 01's in decimal, - where it has none, KIND and MESSAGE the Rust's own:
@@ -71,6 +73,9 @@ pub fn write_answer(text: &mut String, case: &Case, mode: Mode) {
             text.push_str("left");
         }
         write_change(text, &before, &after);
+        if let (1, Some(step)) = (answer.steps, stepper.traces().last()) {
+            line(text, "row", &words_of(row_of(step)));
+        }
         if answer.outcome != Outcome::Paused {
             write_outcome(text, steps, &answer.outcome);
             return;

@@ -1,6 +1,6 @@
 //! Where the source does something else than document 01, each with its smallest input.
 //!
-//! All of it lies outside the compared domain, save what a refused step leaves of pc and cells.
+//! All of it lies outside the compared domain, save what a refused step leaves of pc and cells, and the op1 of some rows.
 
 use model::frames::{Frame, Operand};
 use model::numbers::{HEAP_END, MOST_CELLS, MOST_VALUES, P};
@@ -29,6 +29,11 @@ fn reg(register: usize) -> Operand {
     Operand::Register(register)
 }
 
+/// Those of docs/DIFFERENCES.md, where 35 to 38 are about how a run begins and ends.
+fn numbers() -> impl Iterator<Item = usize> {
+    (1..=34).chain(39..)
+}
+
 /// The whole file.
 pub fn text() -> String {
     let mut text = format!(
@@ -38,11 +43,12 @@ pub fn text() -> String {
 {FORMAT}# After the budget stand two lines more:
 #   mode MODE              plain or traced: without or with traces
 #   document TEXT          what document 01 says of the last step, or document 02 where it is traced
+# Cases 35 to 38 are not among these: docs/DIFFERENCES.md has them.
 "
     );
-    for (index, difference) in differences().iter().enumerate() {
+    for (number, difference) in numbers().zip(differences()) {
         text.push('\n');
-        write_case(&mut text, index + 1, &difference.case);
+        write_case(&mut text, number, &difference.case);
         let mode = match difference.mode {
             Mode::Plain => "plain",
             Mode::Traced => "traced",
@@ -63,6 +69,9 @@ pub fn differences() -> Vec<Difference> {
         wrapping(),
         no_limits(),
         traced(),
+        bare_registers(),
+        not_encoded(),
+        short_sheet(),
     ]
     .into_iter()
     .flatten()
@@ -310,6 +319,80 @@ fn traced() -> Vec<Difference> {
             "e3, as without traces; not compared where get_inst_imm_u64 fails",
         ),
     ]
+}
+
+/// The row has the register of op1, the line what it is evaluated to.
+fn bare_registers() -> Vec<Difference> {
+    let (offset, factor) = (Operand::Offset(0, 1), Operand::Factor(0, 2));
+    vec![
+        traced_case(
+            one(
+                "traced mload, an offset",
+                frame(MLOAD, reg(0), offset, reg(1)),
+            )
+            .cells(1, &[5]),
+            "e3; op1 of the line is 1",
+        ),
+        traced_case(
+            one(
+                "traced mload, a factor",
+                frame(MLOAD, reg(1), factor, reg(1)),
+            )
+            .register(0, 1)
+            .cells(2, &[5]),
+            "e3; op1 of the line is 2",
+        ),
+        traced_case(
+            one(
+                "traced mstore, an offset",
+                frame(MSTORE, reg(0), offset, reg(1)),
+            ),
+            "e3; op1 of the line is 1",
+        ),
+        traced_case(
+            one(
+                "traced mstore, a factor",
+                frame(MSTORE, reg(1), factor, reg(1)),
+            )
+            .register(0, 1),
+            "e3; op1 of the line is 2",
+        ),
+    ]
+}
+
+/// The source fails after the step's own tests, before CALL's further read and before a store.
+fn not_encoded() -> Vec<Difference> {
+    vec![
+        traced_case(
+            one(
+                "traced, an ignored op0 that has no encoding",
+                frame(END, Operand::Pc, NONE, NONE),
+            ),
+            "e0, as without traces; not compared where get_inst_imm_u64 fails",
+        ),
+        traced_case(
+            one(
+                "traced, no encoding, a refused store",
+                frame(MSTORE, imm(0), imm(0), reg(1)),
+            )
+            .register(1, P + 1),
+            "refused 14; not compared where get_inst_imm_u64 fails",
+        ),
+        traced_case(
+            one(
+                "traced, no encoding, a refused call",
+                frame(CALL, imm(0), imm(7), NONE),
+            ),
+            "refused 11; not compared where get_inst_imm_u64 fails",
+        ),
+    ]
+}
+
+fn short_sheet() -> Vec<Difference> {
+    vec![traced_case(
+        one("traced, a sheet of no bytes", end()),
+        "refused 19 in a sheet of fewer than 257 bytes",
+    )]
 }
 
 fn one(name: &str, only: Frame) -> Case {

@@ -13,7 +13,7 @@ use ola_core::vm::hardware::{OlaRegister, OlaSpecialRegister};
 use ola_core::vm::opcodes::OlaOpcode;
 use ola_core::vm::operands::{ImmediateValue, OlaOperand};
 
-use crate::stepper::Stepper;
+use crate::stepper::{Mode, Stepper};
 
 const LONGEST_SPAN: u64 = 4096;
 
@@ -30,6 +30,8 @@ pub enum NotCompared {
     AssertWithoutRegister,
     WrappingAddress,
     LongSpan,
+    /// Of a traced step: `get_inst_imm_u64` fails, unless one of the step's own tests refuses it first.
+    NotEncoded,
 }
 
 /// Why the next step is not compared, or `None`.
@@ -52,8 +54,28 @@ struct Look<'a> {
     stepper: &'a Stepper,
 }
 
+/// What a step writes once it has passed its own tests.
+#[derive(Default)]
+struct Writes {
+    cells: Vec<(u64, u64)>,
+    /// The cells go past the last address.
+    wrap: bool,
+    tape: u64,
+    output: u64,
+}
+
 impl Look<'_> {
     fn at(&self, instruction: &BinaryInstruction) -> Result<(), Stop> {
+        let writes = self.passes(instruction)?;
+        if self.stepper.mode() == Mode::Traced {
+            self.traces(instruction)?;
+        }
+        self.fits(&writes)
+    }
+
+    /// The step's own tests.
+    fn passes(&self, instruction: &BinaryInstruction) -> Result<Writes, Stop> {
+        let mut writes = Writes::default();
         let op0 = || self.value(&instruction.op0);
         let op1 = || self.value(&instruction.op1);
         match instruction.opcode {
@@ -61,7 +83,7 @@ impl Look<'_> {
                 let (op0, op1) = (op0()?, op1()?);
                 register(&instruction.dst)?;
                 below_p(op0)?;
-                below_p(op1)
+                below_p(op1)?;
             }
             OlaOpcode::EQ
             | OlaOpcode::NEQ
@@ -71,7 +93,6 @@ impl Look<'_> {
             | OlaOpcode::GTE => {
                 op0()?;
                 op1()?;
-                Ok(())
             }
             OlaOpcode::MSTORE => {
                 let (op0, op1) = (op0()?, op1()?);
@@ -79,39 +100,39 @@ impl Look<'_> {
                 below_p(op0)?;
                 below_p(op1)?;
                 let address = (op0 as u128 + op1 as u128) % P as u128;
-                self.stores(&[(address as u64, number)])
+                writes.cells = vec![(address as u64, number)];
             }
             OlaOpcode::NOT => {
                 let op1 = op1()?;
                 register(&instruction.dst)?;
-                below_p(op1)
+                below_p(op1)?;
             }
-            OlaOpcode::MOV | OlaOpcode::RC => op1().map(|_| ()),
+            OlaOpcode::MOV | OlaOpcode::RC => {
+                op1()?;
+            }
             OlaOpcode::ASSERT => {
                 register(&instruction.op1)
                     .map_err(|_| Stop::NotCompared(NotCompared::AssertWithoutRegister))?;
-                Ok(())
             }
             OlaOpcode::JMP => {
                 if instruction.op0.is_some() {
                     return Err(Stop::Refused);
                 }
-                op1().map(|_| ())
+                op1()?;
             }
             OlaOpcode::CJMP => {
                 if op0()? > 1 {
                     return Err(Stop::Refused);
                 }
-                op1().map(|_| ())
+                op1()?;
             }
             OlaOpcode::CALL => {
                 op1()?;
-                let frame = self.stepper.registers()[9];
-                let address = frame.checked_sub(1).ok_or(Stop::Refused)?;
-                // The number is a pc: always small.
-                self.stores(&[(address, 0)])
+                // Below 0 is past p, and refused 14 there. The number is a pc: always small.
+                let address = self.stepper.registers()[9].wrapping_sub(1);
+                writes.cells = vec![(address, 0)];
             }
-            OlaOpcode::RET | OlaOpcode::END => Ok(()),
+            OlaOpcode::RET | OlaOpcode::END => {}
             OlaOpcode::TLOAD => {
                 let (op0, op1) = (op0()?, op1()?);
                 let dst = self.value(&instruction.dst)?;
@@ -122,33 +143,53 @@ impl Look<'_> {
                     _ => return Err(Stop::Refused),
                 };
                 let count = positions.end - positions.start;
-                if count != 0 && dst.checked_add(count).is_none() {
-                    return Err(Stop::NotCompared(NotCompared::WrappingAddress));
-                }
-                let stores: Vec<(u64, u64)> = (dst..)
+                writes.wrap = count != 0 && dst.checked_add(count).is_none();
+                writes.cells = (dst..=u64::MAX)
                     .zip(positions.map(|position| self.stepper.tape_value(position)))
                     .collect();
-                self.stores(&stores)
             }
             OlaOpcode::TSTORE => {
                 let (op0, op1) = (op0()?, op1()?);
                 self.span(op0, op1)?;
-                let output = self.stepper.output().len() as u64 + op1;
-                has_capacity(self.stepper.tape_length() + op1 <= MOST_VALUES as u64)?;
-                has_capacity(output <= MOST_VALUES as u64)
+                writes.tape = op1;
+                writes.output = op1;
             }
             OlaOpcode::SCCALL => {
                 let op0 = op0()?;
                 op1()?;
                 self.span(op0, 4)?;
-                has_capacity(self.stepper.tape_length() + 12 <= MOST_VALUES as u64)
+                writes.tape = 12;
             }
             OlaOpcode::POSEIDON
             | OlaOpcode::SLOAD
             | OlaOpcode::SSTORE
             | OlaOpcode::SIGCHECK
-            | OlaOpcode::EVENT => Err(Stop::NotCompared(NotCompared::Opcode)),
+            | OlaOpcode::EVENT => return Err(Stop::NotCompared(NotCompared::Opcode)),
         }
+        Ok(writes)
+    }
+
+    /// What a traced step does before it writes: the encoding, and CALL's further read.
+    fn traces(&self, instruction: &BinaryInstruction) -> Result<(), Stop> {
+        if !is_encoded(instruction) {
+            return Err(Stop::NotCompared(NotCompared::NotEncoded));
+        }
+        let is_call = instruction.opcode == OlaOpcode::CALL;
+        let read = self.stepper.registers()[9].wrapping_sub(2);
+        if is_call && !self.is_present(read) {
+            return Err(Stop::Refused);
+        }
+        Ok(())
+    }
+
+    fn fits(&self, writes: &Writes) -> Result<(), Stop> {
+        if writes.wrap {
+            return Err(Stop::NotCompared(NotCompared::WrappingAddress));
+        }
+        self.stores(&writes.cells)?;
+        let output = self.stepper.output().len() as u64 + writes.output;
+        has_capacity(self.stepper.tape_length() + writes.tape <= MOST_VALUES as u64)?;
+        has_capacity(output <= MOST_VALUES as u64)
     }
 
     fn value(&self, operand: &Option<OlaOperand>) -> Result<u64, Stop> {
@@ -223,6 +264,21 @@ fn register(operand: &Option<OlaOperand>) -> Result<usize, Stop> {
         Some(OlaOperand::RegisterOperand { register }) => Ok(register.index() as usize),
         _ => Err(Stop::Refused),
     }
+}
+
+/// By the kinds of the operands, those that the step ignores too.
+fn is_encoded(instruction: &BinaryInstruction) -> bool {
+    let is_bare = |operand: &Option<OlaOperand>| {
+        use OlaOperand::{RegisterOperand, RegisterWithOffset};
+        matches!(
+            operand,
+            None | Some(RegisterOperand { .. } | RegisterWithOffset { .. })
+        )
+    };
+    let is_special = matches!(instruction.op1, Some(OlaOperand::SpecialReg { .. }));
+    is_bare(&instruction.op0)
+        && is_bare(&instruction.dst)
+        && (!is_special || instruction.opcode == OlaOpcode::MOV)
 }
 
 fn below_p(number: u64) -> Result<(), Stop> {

@@ -22,13 +22,14 @@ pub fn cases() -> Vec<Case> {
     drawn.extend(programs::cases(&mut random));
 
     let mut cases = written::cases();
-    cases.extend(drawn.into_iter().filter_map(cut_to_compared));
+    let cut = |case| cut_to_compared(case, Mode::Plain);
+    cases.extend(drawn.into_iter().filter_map(cut));
     cases
 }
 
 /// The case with a budget that ends before the first step that is not compared; `None` where no step is left.
-fn cut_to_compared(mut case: Case) -> Option<Case> {
-    let mut stepper = Stepper::new(&case.program, &case.start, Mode::Plain);
+pub fn cut_to_compared(mut case: Case, mode: Mode) -> Option<Case> {
+    let mut stepper = Stepper::new(&case.program, &case.start, mode);
     for steps in 0..case.budget {
         if why_not_compared(&stepper).is_some() {
             case.budget = steps;
@@ -44,11 +45,13 @@ fn cut_to_compared(mut case: Case) -> Option<Case> {
 #[cfg(test)]
 mod tests {
     use super::*;
+    use crate::replay::all_cases;
 
+    /// The traced ones too.
     #[test]
     fn every_case_is_compared() {
-        for case in cases() {
-            let mut stepper = Stepper::new(&case.program, &case.start, Mode::Plain);
+        for (case, mode) in all_cases() {
+            let mut stepper = Stepper::new(&case.program, &case.start, mode);
             for _ in 0..case.budget {
                 assert_eq!(why_not_compared(&stepper), None, "{}", case.name);
                 if stepper.step().outcome != Outcome::Paused {

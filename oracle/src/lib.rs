@@ -10,5 +10,7 @@ pub mod first_list;
 pub mod instructions;
 pub mod outcome;
 pub mod replay;
+pub mod rows;
 pub mod splitmix;
 pub mod stepper;
+pub mod traced_list;

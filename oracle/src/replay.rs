@@ -1,7 +1,8 @@
-//! The cases of `first_list` as the program `replay` reads them, and what it must write for them, found by running the source.
+//! The cases of `first_list` and `traced_list` as the program `replay` reads them, and what it must write for them, found by running the
+//! source.
 //!
-//! The format is that of conformance/FORMAT.md. After a refusal the source's clk, registers, tape and output are written; pc
-//! and cells are those of before the refused step, as document 01 has it.
+//! The format is that of conformance/FORMAT.md. The lines of a sheet are the source's rows. After a refusal the source's clk, registers,
+//! tape and output are written; pc and cells are those of before the refused step, as document 01 has it.
 
 use std::fmt::Write;
 
@@ -9,11 +10,14 @@ use model::frames::encode;
 use model::kilosteps::kilosteps;
 use model::numbers::{MOST_CELLS, MOST_VALUES};
 use model::state::State;
+use ola_core::trace::exe_trace::ExeTraceStepDiff;
 
 use crate::case::Case;
-use crate::first_list::{cases, SEED};
+use crate::first_list::{self, SEED};
 use crate::outcome::{Answer, Outcome};
+use crate::rows::{line_of, row_of, words_of};
 use crate::stepper::{Mode, Stepper};
+use crate::traced_list;
 
 /// What a lent buffer holds where nothing was written.
 const UNUSED: u64 = 0xEEEE_EEEE_EEEE_EEEE;
@@ -22,16 +26,16 @@ const UNUSED: u64 = 0xEEEE_EEEE_EEEE_EEEE;
 pub fn input() -> String {
     let mut text = format!(
         "\
-# The replayed vectors. Their stored answers are those of `OlaContractExecutor::resume` (Sin7Y/olavm 74fb50ee61) in its mode
-# without traces, built for release. Both files are made by
+# The replayed vectors. Their stored answers are those of `OlaContractExecutor::resume` (Sin7Y/olavm 74fb50ee61), built for release: of
+# `plain` in its mode without traces, of `traced` in a mode with traces, whose rows are the lines of the sheet. Both files are made by
 #   cargo run --release --offline --manifest-path oracle/Cargo.toml -- replay crates/replay
 # The format is described in conformance/FORMAT.md. Cases come first from document 01 and by hand, then from SplitMix64 with the seed
 # {SEED:016x}. All are in the domain that document 01 compares.
 "
     );
-    for (index, case) in cases().iter().enumerate() {
+    for (number, (case, mode)) in (1..).zip(all_cases()) {
         text.push('\n');
-        write_case(&mut text, index + 1, case);
+        write_case(&mut text, number, &case, mode);
     }
     text
 }
@@ -39,49 +43,76 @@ pub fn input() -> String {
 /// What the program must write.
 pub fn output() -> String {
     let mut text = String::new();
-    for (index, case) in cases().iter().enumerate() {
-        write_answers(&mut text, index + 1, case);
+    for (number, (case, mode)) in (1..).zip(all_cases()) {
+        write_answers(&mut text, number, &case, mode);
     }
     text
 }
 
-fn write_case(text: &mut String, number: usize, case: &Case) {
+/// Each with the mode that it is run in.
+pub fn all_cases() -> impl Iterator<Item = (Case, Mode)> {
+    let plain = first_list::cases().into_iter();
+    let traced = traced_list::cases().into_iter();
+    let plain = plain.map(|case| (case, Mode::Plain));
+    plain.chain(traced.map(|case| (case, Mode::Traced)))
+}
+
+fn write_head(text: &mut String, number: usize, case: &Case, mode: Mode) {
+    let traced = match mode {
+        Mode::Plain => "",
+        Mode::Traced => "traced: ",
+    };
+    writeln!(text, "case {number} {traced}{}", case.name).unwrap();
+}
+
+fn write_budget(text: &mut String, case: &Case, mode: Mode) {
+    let word = match mode {
+        Mode::Plain => "plain",
+        Mode::Traced => "traced",
+    };
+    write_line(text, word, &[case.budget]);
+}
+
+fn write_case(text: &mut String, number: usize, case: &Case, mode: Mode) {
     let default = parts(&State::default());
-    writeln!(text, "case {number} {}", case.name).unwrap();
+    write_head(text, number, case, mode);
     write_line(text, "words", &encode(&case.program));
     for (part, default) in parts(&case.start).iter().zip(default) {
         if part.values != default.values {
             write_line(text, part.name, &part.values);
         }
     }
-    write_line(text, "plain", &[case.budget]);
+    write_budget(text, case, mode);
 }
 
 /// The steps one by one, then the whole run in one call from the same start.
-fn write_answers(text: &mut String, number: usize, case: &Case) {
-    writeln!(text, "case {number} {}", case.name).unwrap();
-    write_line(text, "plain", &[case.budget]);
+fn write_answers(text: &mut String, number: usize, case: &Case, mode: Mode) {
+    write_head(text, number, case, mode);
+    write_budget(text, case, mode);
 
     let mut shown = Shown::new(&case.start);
-    let mut stepper = Stepper::new(&case.program, &case.start, Mode::Plain);
+    let mut stepper = Stepper::new(&case.program, &case.start, mode);
     let mut before = case.start.clone();
     let mut done = 0;
     while done < case.budget {
+        let traced = stepper.traces().len();
         let answer = stepper.step();
         done += 1;
         let after = left(&answer, &before, stepper.state());
         shown.write_call(text, &answer, &after);
+        shown.write_sheet(text, &stepper.traces()[traced..]);
         before = after;
         if answer.outcome != Outcome::Paused {
             break;
         }
     }
 
-    let mut stepper = Stepper::new(&case.program, &case.start, Mode::Plain);
+    let mut stepper = Stepper::new(&case.program, &case.start, mode);
     let answer = stepper.run(case.budget);
     let after = left(&answer, &before, stepper.state());
     text.push_str("run ");
     shown.write_call(text, &answer, &after);
+    shown.write_sheet(text, stepper.traces());
 }
 
 /// What a call leaves: after a refused step, pc and cells of before it.
@@ -150,8 +181,11 @@ fn parts(state: &State) -> [Part; 7] {
     ]
 }
 
-/// What each part held when it was last written, the buffers in their whole capacity.
-struct Shown([Part; 7]);
+/// What each part held when it was last written, the buffers in their whole capacity, the sheet as far as it has lines.
+struct Shown {
+    parts: [Part; 7],
+    sheet: Vec<Vec<u8>>,
+}
 
 impl Shown {
     fn new(start: &State) -> Shown {
@@ -160,17 +194,20 @@ impl Shown {
         for (part, length) in parts.iter_mut().zip(lengths) {
             part.values.resize(length.max(part.values.len()), UNUSED);
         }
-        Shown(parts)
+        Shown {
+            parts,
+            sheet: vec![],
+        }
     }
 
     fn write_call(&mut self, text: &mut String, answer: &Answer, now: &State) {
         write_answer(text, answer, now);
-        let [_, state, ..] = &mut self.0;
+        let [_, state, ..] = &mut self.parts;
         if answer.steps != 0 {
             // The answer's line has them.
             state.values[..2].copy_from_slice(&[now.pc, now.clk]);
         }
-        for (shown, now) in self.0.iter_mut().zip(parts(now)) {
+        for (shown, now) in self.parts.iter_mut().zip(parts(now)) {
             let mut changes = String::new();
             for (index, (shown, now)) in shown.values.iter_mut().zip(now.values).enumerate() {
                 if *shown != now {
@@ -180,6 +217,20 @@ impl Shown {
             }
             if !changes.is_empty() {
                 writeln!(text, "{}{changes}", now.name).unwrap();
+            }
+        }
+    }
+    /// The lines of a call, from the sheet's start on.
+    fn write_sheet(&mut self, text: &mut String, steps: &[ExeTraceStepDiff]) {
+        for (place, step) in steps.iter().enumerate() {
+            let line = line_of(&words_of(row_of(step)));
+            if self.sheet.get(place) != Some(&line) {
+                let digits = std::str::from_utf8(&line).expect("digits are ASCII");
+                write!(text, "sheet {place:x} {digits}").unwrap();
+            }
+            match self.sheet.get_mut(place) {
+                Some(shown) => *shown = line,
+                None => self.sheet.push(line),
             }
         }
     }

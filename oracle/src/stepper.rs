@@ -29,7 +29,17 @@ pub enum Mode {
     Traced,
 }
 
+impl Mode {
+    fn of_source(self) -> ExecuteMode {
+        match self {
+            Mode::Plain => ExecuteMode::Call,
+            Mode::Traced => ExecuteMode::Invoke,
+        }
+    }
+}
+
 pub struct Stepper {
+    mode: Mode,
     executor: Executor,
     tape: OlaTape,
     events: TxEventManager,
@@ -42,10 +52,7 @@ impl Stepper {
         let mut tape = OlaTape::default();
         tape.batch_write(&start.tape);
         let executor = Executor::with(Fields {
-            mode: match mode {
-                Mode::Plain => ExecuteMode::Call,
-                Mode::Traced => ExecuteMode::Invoke,
-            },
+            mode: mode.of_source(),
             context: ExeContext {
                 storage_addr: start.storage_address,
                 // Never read by a step.
@@ -59,18 +66,34 @@ impl Stepper {
             instructions: instructions_by_pc(program),
             output: start.output.clone(),
         });
-        Stepper::around(executor, tape)
+        Stepper {
+            mode,
+            ..Stepper::around(executor, tape)
+        }
     }
 
-    /// An executor that was begun elsewhere, with an empty storage and no traces.
+    /// An executor that was begun elsewhere, without traces, with an empty storage.
     pub fn around(executor: Executor, tape: OlaTape) -> Stepper {
         Stepper {
+            mode: Mode::Plain,
             executor,
             tape,
             events: TxEventManager,
             storage: OlaCachedStorage::default(),
             traces: TxTraceManager::default(),
         }
+    }
+
+    pub fn mode(&self) -> Mode {
+        self.mode
+    }
+
+    /// One step in another mode.
+    pub fn step_in(&mut self, mode: Mode) -> Answer {
+        self.executor.set_mode(mode.of_source());
+        let answer = self.step();
+        self.executor.set_mode(self.mode.of_source());
+        answer
     }
 
     /// One step.

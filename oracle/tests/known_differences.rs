@@ -2,8 +2,11 @@
 
 use std::str::FromStr;
 
+use model::code::Code;
 use model::frames::{Frame, Operand};
-use model::numbers::{HEAP_END, P, STACK_END};
+use model::lending::GREATEST;
+use model::machine::Model;
+use model::numbers::{HEAP_END, LINE_BYTES, P, STACK_END};
 use model::opcodes::Opcode;
 use model::state::State;
 use ola_core::program::binary_program::BinaryProgram;
@@ -12,17 +15,23 @@ use ola_core::vm::operands::ImmediateValue;
 use ola_executor::config::ExecuteMode;
 use ola_executor::Executor;
 use oracle::case::{end, frame};
-use oracle::differences::differences;
+use oracle::differences::{differences, Difference};
 use oracle::instructions::instruction_of;
 use oracle::outcome::{Answer, Failure, Outcome};
+use oracle::rows::{line_of, row_of, words_of, OP1};
 use oracle::stepper::{Mode, Stepper};
 
-/// What the source does with the difference of this name.
-fn run(name: &str) -> (Answer, State) {
-    let difference = differences()
+/// The difference of this name.
+fn find(name: &str) -> Difference {
+    differences()
         .into_iter()
         .find(|difference| difference.case.name == name)
-        .unwrap();
+        .unwrap()
+}
+
+/// What the source does with it.
+fn run(name: &str) -> (Answer, State) {
+    let difference = find(name);
     let case = difference.case;
     let mut stepper = Stepper::new(&case.program, &case.start, difference.mode);
     let answer = stepper.run(case.budget);
@@ -152,6 +161,70 @@ fn a_loop_goes_on_until_the_clock_ends() {
         Outcome::Failed(failure) => assert_eq!(failure.refusal(), Some(17)),
         other => panic!("{other:?}"),
     }
+}
+
+/// The number and whether it is a refusal's, and op1 of the sheet's only line: what the model makes of a traced difference.
+fn modelled(name: &str, sheet: &mut [u8]) -> (bool, u64, Option<u64>) {
+    let case = find(name).case;
+    let mut model = Model::plain(case.start, GREATEST);
+    let answer = model.traced_run(&Code::new(&case.program), case.budget, sheet);
+    let op1 = sheet
+        .get(16 * OP1..16 * (OP1 + 1))
+        .filter(|_| answer.steps == 1);
+    let op1 = op1.map(|digits| u64::from_str_radix(&String::from_utf8_lossy(digits), 16).unwrap());
+    (answer.refused == 1, answer.number, op1)
+}
+
+#[test]
+fn a_row_has_the_bare_register() {
+    for (name, shown, evaluated) in [
+        ("traced mload, an offset", 0, 1),
+        ("traced mload, a factor", 1, 2),
+        ("traced mstore, an offset", 0, 1),
+        ("traced mstore, a factor", 1, 2),
+    ] {
+        let case = find(name).case;
+        let mut stepper = Stepper::new(&case.program, &case.start, Mode::Traced);
+        assert_eq!(stepper.step().outcome, Outcome::Paused, "{name}");
+        let row = words_of(row_of(&stepper.traces()[0]));
+        assert_eq!(row[OP1], shown, "{name}");
+        let mut sheet = [0; LINE_BYTES];
+        let expected = (false, 3, Some(evaluated));
+        assert_eq!(modelled(name, &mut sheet), expected, "{name}");
+        // Nothing else differs.
+        let mut words = row;
+        words[OP1] = evaluated;
+        assert_eq!(sheet[..], line_of(&words), "{name}");
+    }
+}
+
+#[test]
+fn what_has_no_encoding_fails_before_it_stores() {
+    for (name, is_refused, number) in [
+        ("traced, an op0 that has no encoding", false, 3),
+        ("traced, an ignored op0 that has no encoding", false, 0),
+        ("traced, no encoding, a refused store", true, 14),
+        ("traced, no encoding, a refused call", true, 11),
+    ] {
+        let (failure, state) = failed(name);
+        let message = "BinaryInstruction: get_inst_imm_u64 error.";
+        assert_eq!((failure.kind, &failure.message[..]), ("Message", message));
+        assert_eq!(state, find(name).case.start, "{name}");
+        let (refused, given, _) = modelled(name, &mut [0; LINE_BYTES]);
+        assert_eq!((refused, given), (is_refused, number), "{name}");
+    }
+}
+
+#[test]
+fn the_source_has_no_short_sheet() {
+    let name = "traced, a sheet of no bytes";
+    assert_eq!(run(name).0.outcome, Outcome::Ended(vec![]));
+    assert_eq!(modelled(name, &mut []), (true, 19, None));
+    let mut too_short = [0; LINE_BYTES - 1];
+    assert_eq!(modelled(name, &mut too_short), (true, 19, None));
+    assert_eq!(too_short, [0; LINE_BYTES - 1]);
+    let (refused, number, _) = modelled(name, &mut [0; LINE_BYTES]);
+    assert_eq!((refused, number), (false, 0));
 }
 
 /// Document 01 refuses this 11: the first cell is not present. The source asks for memory for all of them before it looks.

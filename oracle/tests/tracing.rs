@@ -1,10 +1,15 @@
 //! The mode with traces.
 
+use model::code::Code;
 use model::frames::Operand;
+use model::lending::GREATEST;
+use model::machine::Model;
 use model::opcodes::Opcode;
 use oracle::case::{end, frame, Case};
 use oracle::outcome::Outcome;
+use oracle::rows::{line_of, row_of, words_of};
 use oracle::stepper::{Mode, Stepper};
+use oracle::traced_list;
 
 const ABSENT: Operand = Operand::Absent;
 const R1: Operand = Operand::Register(1);
@@ -43,15 +48,21 @@ fn no_rows_without_traces() {
     assert!(stepper.traces().is_empty());
 }
 
+/// In the whole domain that is compared: the program `replay` has these cases.
 #[test]
-fn a_traced_mload_shows_the_register_of_its_op1() {
-    let factor = Operand::Factor(1, 3);
-    let case = Case::new("", &[frame(Opcode::MLOAD, R2, factor, R1)])
-        .register(1, 2)
-        .cells(6, &[9]);
-    let mut stepper = Stepper::new(&case.program, &case.start, Mode::Traced);
-    assert_eq!(stepper.step().steps, 1);
-    assert_eq!(stepper.traces()[0].cpu[0].op1, Some(2));
+fn the_rows_are_the_lines_of_the_model() {
+    for case in traced_list::cases() {
+        let mut stepper = Stepper::new(&case.program, &case.start, Mode::Traced);
+        let steps = stepper.run(case.budget).steps;
+        let rows = stepper.traces().iter().map(row_of);
+        let lines: Vec<u8> = rows.flat_map(|row| line_of(&words_of(row))).collect();
+
+        let mut sheet = vec![0; lines.len()];
+        let mut model = Model::plain(case.start, GREATEST);
+        let answer = model.traced_run(&Code::new(&case.program), case.budget, &mut sheet);
+        assert_eq!(answer.steps, steps, "{}", case.name);
+        assert!(sheet == lines, "{}", case.name);
+    }
 }
 
 /// As document 02 wants them: op0, op1 and dst as `get_common_cpu_exe_pieces` receives them.
@@ -104,22 +115,5 @@ fn a_traced_call_reads_below_the_return_pc() {
             other => panic!("{other:?}"),
         }
         assert_eq!(traced.state(), case.start);
-    }
-}
-
-#[test]
-fn an_ignored_operand_without_encoding_fails_the_step() {
-    let odd_end = frame(Opcode::END, Operand::Pc, ABSENT, ABSENT);
-    let start = Case::new("", &[]).start;
-    let mut untraced = Stepper::new(&[odd_end], &start, Mode::Plain);
-    assert_eq!(untraced.step().outcome, Outcome::Ended(vec![]));
-
-    let mut traced = Stepper::new(&[odd_end], &start, Mode::Traced);
-    match traced.step().outcome {
-        Outcome::Failed(failure) => assert_eq!(
-            failure.message,
-            "BinaryInstruction: get_inst_imm_u64 error."
-        ),
-        other => panic!("{other:?}"),
     }
 }

@@ -13,7 +13,7 @@ use crate::region_edges::EdgeCounts;
 use crate::tables::{grouped, head, row};
 
 /// The refusals that document 01 compares.
-const COMPARED_REFUSALS: [usize; 10] = [4, 6, 8, 9, 10, 11, 12, 13, 14, 17];
+pub const COMPARED_REFUSALS: [usize; 10] = [4, 6, 8, 9, 10, 11, 12, 13, 14, 17];
 
 /// So many of what was never met an error names.
 const MOST_NAMED: usize = 8;
@@ -29,7 +29,7 @@ const KINDS: [&str; 7] = [
     "PC",
 ];
 
-/// Why a step is not compared, with a name.
+/// Why a step is not compared, with a name. What is not encoded has a table of its own.
 const OUTSIDE: [(NotCompared, &str); 7] = [
     (NotCompared::Opcode, "refusal 5"),
     (NotCompared::NotBelowP, "refusal 7"),
@@ -65,13 +65,83 @@ pub struct StepCounts {
     /// By opcode.
     accepted_by: [u64; OPCODES.len()],
     refused_by: [u64; OPCODES.len()],
-    /// By opcode, place and kind.
-    kinds: [[[u64; KINDS.len()]; PLACES.len()]; OPCODES.len()],
+    kinds: KindCounts,
     /// By number.
     refusals: [u64; 19],
     outcomes: [u64; 4],
-    outside: [u64; OUTSIDE.len()],
+    outside: OutsideCounts,
     edges: EdgeCounts,
+}
+
+/// An operand that an opcode may have: its place and its kind.
+pub type Combination = (Opcode, usize, usize);
+
+/// How often each opcode had each kind of operand in each place.
+#[derive(Default)]
+pub struct KindCounts([[[u64; KINDS.len()]; PLACES.len()]; OPCODES.len()]);
+
+impl KindCounts {
+    pub fn count(&mut self, frame: &Frame) {
+        for (place, operand) in [frame.op0, frame.op1, frame.dst].into_iter().enumerate() {
+            self.0[frame.opcode as usize][place][operand.kind()] += 1;
+        }
+    }
+
+    /// Of all opcodes together.
+    pub fn of_all(&self, place: usize, kind: usize) -> u64 {
+        self.0.iter().map(|places| places[place][kind]).sum()
+    }
+
+    pub fn missing(&self, combinations: &[Combination]) -> Vec<String> {
+        let is_missing =
+            |(opcode, place, kind): &&Combination| self.0[*opcode as usize][*place][*kind] == 0;
+        let name = |(opcode, place, kind): &Combination| {
+            format!("{opcode:?} with {}", operand_name(*place, *kind))
+        };
+        combinations.iter().filter(is_missing).map(name).collect()
+    }
+
+    /// `which` says which combinations these are.
+    pub fn put(&self, text: &mut String, title: &str, combinations: &[Combination], which: &str) {
+        head(text, &[&[title][..], &KINDS].concat());
+        for (place, name) in PLACES.into_iter().enumerate() {
+            let counts: Vec<String> = (0..KINDS.len())
+                .map(|kind| grouped(self.of_all(place, kind)))
+                .collect();
+            row(text, name, &counts);
+        }
+        let counts = combinations
+            .iter()
+            .map(|(opcode, place, kind)| self.0[*opcode as usize][*place][*kind]);
+        let rarest = counts.min().unwrap_or(0);
+        text.push_str(&format!(
+            "\nEach of the {} combinations of opcode, place and kind that {which} was met at least {} times.\n",
+            combinations.len(),
+            grouped(rarest)
+        ));
+    }
+}
+
+pub fn operand_name(place: usize, kind: usize) -> String {
+    format!("{} {}", PLACES[place], KINDS[kind])
+}
+
+/// Programs that were cut before a step that is not compared.
+#[derive(Default)]
+pub struct OutsideCounts([u64; OUTSIDE.len()]);
+
+impl OutsideCounts {
+    pub fn count(&mut self, why: NotCompared) {
+        let place = OUTSIDE.iter().position(|(listed, _)| *listed == why);
+        self.0[place.expect("every reason is listed")] += 1;
+    }
+
+    pub fn put(&self, text: &mut String) {
+        for ((_, name), count) in OUTSIDE.iter().zip(self.0) {
+            let name = format!("programs cut before a step not compared: {name}");
+            row(text, &name, &[grouped(count)]);
+        }
+    }
 }
 
 impl StepCounts {
@@ -90,9 +160,7 @@ impl StepCounts {
             } else {
                 self.refused_by[opcode] += 1;
             }
-            for (place, operand) in [frame.op0, frame.op1, frame.dst].into_iter().enumerate() {
-                self.kinds[opcode][place][operand.kind()] += 1;
-            }
+            self.kinds.count(frame);
         }
         if let Some(touched) = stepped.touched {
             self.edges.count(touched);
@@ -106,8 +174,7 @@ impl StepCounts {
     }
 
     pub fn outside(&mut self, why: NotCompared) {
-        let place = OUTSIDE.iter().position(|(listed, _)| *listed == why);
-        self.outside[place.expect("every reason is listed")] += 1;
+        self.outside.count(why);
     }
 
     /// An error names what was never met.
@@ -122,19 +189,13 @@ impl StepCounts {
             let count = self.accepted_by[opcode as usize];
             need(count, format!("{opcode:?} accepted"));
         }
-        for (opcode, place, kind) in compared_combinations() {
-            let (place_name, kind_name) = (PLACES[place], KINDS[kind]);
-            need(
-                self.kinds[opcode as usize][place][kind],
-                format!("{opcode:?} with {place_name} {kind_name}"),
-            );
-        }
         for number in COMPARED_REFUSALS {
             need(self.refusals[number], format!("refusal {number}"));
         }
         for (number, count) in self.outcomes.into_iter().enumerate() {
             need(count, format!("outcome e{number}"));
         }
+        missing.extend(self.kinds.missing(&compared_combinations()));
         missing.extend(self.edges.missing());
         all_met(&missing)
     }
@@ -143,7 +204,9 @@ impl StepCounts {
         let mut text = String::new();
         self.put_summary(&mut text, options);
         self.put_opcodes(&mut text);
-        self.put_operands(&mut text);
+        let combinations = compared_combinations();
+        let kinds = &self.kinds;
+        kinds.put(&mut text, "Operand", &combinations, "are compared");
         self.edges.put(&mut text);
         text
     }
@@ -168,12 +231,7 @@ impl StepCounts {
         for number in COMPARED_REFUSALS {
             put(&format!("refusal {number}"), self.refusals[number]);
         }
-        for ((_, name), count) in OUTSIDE.iter().zip(self.outside) {
-            put(
-                &format!("programs cut before a step not compared: {name}"),
-                count,
-            );
-        }
+        self.outside.put(text);
     }
 
     fn put_opcodes(&self, text: &mut String) {
@@ -183,26 +241,6 @@ impl StepCounts {
             let counts = [self.accepted_by[number], self.refused_by[number]];
             row(text, &format!("{opcode:?}"), &counts.map(grouped));
         }
-    }
-
-    fn put_operands(&self, text: &mut String) {
-        head(text, &[&["Operand"][..], &KINDS].concat());
-        for (place, name) in PLACES.into_iter().enumerate() {
-            let counts: Vec<String> = (0..KINDS.len())
-                .map(|kind| grouped(self.kinds.iter().map(|places| places[place][kind]).sum()))
-                .collect();
-            row(text, name, &counts);
-        }
-        let combinations = compared_combinations();
-        let counts = combinations
-            .iter()
-            .map(|(opcode, place, kind)| self.kinds[*opcode as usize][*place][*kind]);
-        let rarest = counts.min().unwrap_or(0);
-        text.push_str(&format!(
-            "\nEach of the {} combinations of opcode, place and kind that are compared was met at least {} times.\n",
-            combinations.len(),
-            grouped(rarest)
-        ));
     }
 }
 
@@ -220,7 +258,7 @@ pub fn all_met(missing: &[String]) -> Result<(), String> {
 }
 
 /// Opcode, place and kind. Not compared: ASSERT without a register.
-fn compared_combinations() -> Vec<(Opcode, usize, usize)> {
+fn compared_combinations() -> Vec<Combination> {
     let mut combinations = vec![];
     for opcode in compared_opcodes() {
         for place in 0..PLACES.len() {

@@ -1,14 +1,16 @@
-//! Calls with damaged states, words and texts, in fenced buffers: what they answer and leave is what the model of the entry says, and the
-//! check alone says what the call is refused with.
+//! Calls with damaged states, words and texts, in fenced buffers: what they answer and leave is what the model says, and the check alone
+//! says what the call is refused with. Beside a traced call stands the plain one.
 
 use model::entry::{budget_of, Refusal, Run, REASONS};
 use model::frames::{encode, Frame};
-use model::predict::predict;
+use model::numbers::LINE_BYTES;
+use model::predict::{predict, predict_traced};
 use ola::{Answer, Lent, Program};
+use oracle::splitmix::SplitMix64;
 
 use crate::damage;
-use crate::differences::as_predicted;
-use crate::fenced::Fenced;
+use crate::differences::{as_predicted, difference};
+use crate::fenced::{Call, Fenced};
 use crate::generate::{self, starts, Form};
 use crate::options::Options;
 use crate::progress::Progress;
@@ -26,7 +28,10 @@ enum Shape {
 }
 
 const SHAPES: [Shape; 3] = [Shape::Words, Shape::Text, Shape::BudgetText];
-const RUNS: [Run; 2] = [Run::Plain, Run::Guarded];
+const CALLS: [Call; 3] = [Call::Plain, Call::Guarded, Call::Traced];
+
+/// The bytes of a budget line.
+const BUDGET_LINE: usize = 17;
 
 pub fn compare(options: &Options) -> Result<(), String> {
     let mut counts = Counts::default();
@@ -35,17 +40,13 @@ pub fn compare(options: &Options) -> Result<(), String> {
         compare_call(options.seed, number, &mut counts)?;
         progress.show(number);
     }
-    print!("{}", counts.tables(options));
-    if options.only.is_some() {
-        return Ok(());
-    }
-    counts.complete()
+    options.report(&counts.tables(options), counts.complete())
 }
 
 fn compare_call(seed: u64, number: u64, counts: &mut Counts) -> Result<(), String> {
     let mut random = generate::random_of(seed, number);
     let shape = random.pick(&SHAPES);
-    let run = random.pick(&RUNS);
+    let call = random.pick(&CALLS);
     let form = random.pick(&[Form::Random, Form::AnyOperands, Form::Edges]);
     let case = generate::case(&mut random, form);
     let budget = random.below(MOST_STEPS);
@@ -80,17 +81,26 @@ fn compare_call(seed: u64, number: u64, counts: &mut Counts) -> Result<(), Strin
         },
         Shape::BudgetText => Program::BudgetText { text: &text },
     };
-    let called = predicted_call(program, &start, run).map_err(|what| {
+    let sheet = sheet(&mut random);
+    let called = predicted_call(program, &start, &sheet, call).map_err(|what| {
         format!(
             "VIOLATION: {what}\nagain with: damaged --seed {seed:x} --only {number}\n\
-             {} with budget {budget}\nwords {words:x?}\ntext {:?}\nstart {start:x?}",
-            function_name(shape, run),
+             {} with budget {budget}, a sheet of {} bytes\nwords {words:x?}\ntext {:?}\nstart {start:x?}",
+            function_name(shape, call),
+            sheet.len(),
             String::from_utf8_lossy(&text)
         )
     });
-    let (answer, refusal) = called?;
-    counts.count(shape, run, &answer, refusal);
+    let called = called?;
+    counts.count(shape, call, &called);
     Ok(())
+}
+
+/// A sheet for no line, for some, or for all.
+fn sheet(random: &mut SplitMix64) -> Vec<u8> {
+    let lines = random.pick(&[0, 1, 2, 3, 300]);
+    let spare = random.pick(&[0, 0, 1, 100, LINE_BYTES - 1]);
+    vec![random.draw() as u8; lines * LINE_BYTES + spare]
 }
 
 /// A program's words, or its text.
@@ -113,27 +123,47 @@ fn written(frames: &[Frame], shape: Shape, budget: u64) -> (Vec<u64>, Vec<u8>) {
 
 /// A damaged budget line that is still well formed may ask for a run without end; now it asks for at most 255 steps.
 fn shorten_budget(text: &mut [u8]) {
-    if text.get(..17).is_some_and(|line| budget_of(line).is_some()) {
+    let line = text.get(..BUDGET_LINE);
+    if line.is_some_and(|line| budget_of(line).is_some()) {
         text[..14].fill(b'0');
     }
 }
 
-/// One call in fenced buffers, held to the model; what the entry refuses.
+/// What a call came to.
+struct Called {
+    answer: Answer,
+    /// What the entry refuses.
+    refusal: Option<Refusal>,
+    /// Of a traced call: refused 11 where the plain one goes on.
+    by_further_read: bool,
+}
+
+/// One call in fenced buffers, held to the model.
 fn predicted_call(
     program: Program,
     start: &Lent,
-    run: Run,
-) -> Result<(Answer, Option<Refusal>), String> {
-    let mut fenced = Fenced::new(start);
-    let answer = fenced.call(program, run);
+    sheet: &[u8],
+    call: Call,
+) -> Result<Called, String> {
+    let mut fenced = Fenced::new(start, sheet);
+    let answer = fenced.call(program, call);
     if !fenced.fences_stand() {
         return Err(format!("a write out of range, with {answer:x?}"));
     }
-    let predicted = predict(program, start, run);
-    as_predicted(&predicted, &answer, &fenced.lent())?;
-    let checked = match run {
-        Run::Plain => start.check(program),
-        Run::Guarded => start.guarded_check(program),
+    let mut sheet = sheet.to_vec();
+    let predicted = match call {
+        Call::Plain => predict(program, start, Run::Plain),
+        Call::Guarded => predict(program, start, Run::Guarded),
+        Call::Traced => predict_traced(program, start, &mut sheet),
+    };
+    let left = fenced.lent();
+    as_predicted(&predicted, &answer, &left)?;
+    if sheet != fenced.sheet() {
+        return Err(format!("another sheet than the model's, with {answer:x?}"));
+    }
+    let checked = match call {
+        Call::Plain | Call::Traced => start.check(program),
+        Call::Guarded => start.guarded_check(program),
     };
     let expected = match predicted.refusal {
         Some(_) => answer,
@@ -145,17 +175,67 @@ fn predicted_call(
             "the call answers {answer:x?}, the check alone {checked:x?}"
         ));
     }
-    Ok((answer, predicted.refusal))
+    let by_further_read = match call {
+        Call::Traced => beside_plain(program, start, &answer, &left)?,
+        Call::Plain | Call::Guarded => false,
+    };
+    Ok(Called {
+        answer,
+        refusal: predicted.refusal,
+        by_further_read,
+    })
 }
 
-fn function_name(shape: Shape, run: Run) -> &'static str {
-    match (shape, run) {
-        (Shape::Words, Run::Plain) => "ola_run_words",
-        (Shape::Words, Run::Guarded) => "ola_guarded_run_words",
-        (Shape::Text, Run::Plain) => "ola_run_text",
-        (Shape::Text, Run::Guarded) => "ola_guarded_run_text",
-        (Shape::BudgetText, Run::Plain) => "ola_run_budget_text",
-        (Shape::BudgetText, Run::Guarded) => "ola_guarded_run_budget_text",
+/// A traced call is the plain one, save that it may end earlier, with 19 or with the 11 of CALL's further read: whether with the latter.
+fn beside_plain(
+    program: Program,
+    start: &Lent,
+    answer: &Answer,
+    left: &Lent,
+) -> Result<bool, String> {
+    let mut plain = start.clone();
+    let plain_answer = plain.run(program);
+    let ends_earlier = plain_answer != *answer;
+    if ends_earlier {
+        if answer.refused != 1 || !matches!(answer.number, 11 | 19) {
+            return Err(format!("traced {answer:x?}, plain {plain_answer:x?}"));
+        }
+        plain = start.clone();
+        let paused = plain.run(with_budget(program, answer.steps));
+        let steps = answer.steps;
+        if paused != (Answer { steps, ..PAUSED }) {
+            return Err(format!("traced {answer:x?}, plain as far {paused:x?}"));
+        }
+    }
+    match difference(&plain, left) {
+        None => Ok(ends_earlier && answer.number == 11),
+        Some(what) => Err(format!("traced and plain after {answer:x?}: {what}")),
+    }
+}
+
+/// A program that the entry accepts, with another budget.
+fn with_budget(program: Program, budget: u64) -> Program {
+    match program {
+        Program::Words { words, .. } => Program::Words { words, budget },
+        Program::Text { text, .. } => Program::Text { text, budget },
+        Program::BudgetText { text } => Program::Text {
+            text: &text[BUDGET_LINE..],
+            budget,
+        },
+    }
+}
+
+fn function_name(shape: Shape, call: Call) -> &'static str {
+    match (shape, call) {
+        (Shape::Words, Call::Plain) => "ola_run_words",
+        (Shape::Words, Call::Guarded) => "ola_guarded_run_words",
+        (Shape::Words, Call::Traced) => "ola_traced_run_words",
+        (Shape::Text, Call::Plain) => "ola_run_text",
+        (Shape::Text, Call::Guarded) => "ola_guarded_run_text",
+        (Shape::Text, Call::Traced) => "ola_traced_run_text",
+        (Shape::BudgetText, Call::Plain) => "ola_run_budget_text",
+        (Shape::BudgetText, Call::Guarded) => "ola_guarded_run_budget_text",
+        (Shape::BudgetText, Call::Traced) => "ola_traced_run_budget_text",
     }
 }
 
@@ -171,25 +251,33 @@ const ENDS: [&str; 5] = [
 #[derive(Default)]
 struct Counts {
     calls: u64,
-    /// By shape, run and end.
-    ends: [[[u64; ENDS.len()]; RUNS.len()]; SHAPES.len()],
+    /// By shape, call and end.
+    ends: [[[u64; ENDS.len()]; CALLS.len()]; SHAPES.len()],
     /// As in `REASONS`.
     reasons: [u64; REASONS.len()],
     /// Refused 2 with several malformed lines: frames alone, and the budget line with frames.
     several_frames: u64,
     budget_and_frames: u64,
+    /// Of traced calls: refused 19, and 11 by CALL's further read.
+    short_sheets: u64,
+    further_reads: u64,
 }
 
 impl Counts {
-    fn count(&mut self, shape: Shape, run: Run, answer: &Answer, refusal: Option<Refusal>) {
+    fn count(&mut self, shape: Shape, call: Call, called: &Called) {
+        let answer = &called.answer;
         self.calls += 1;
         let end = match (answer.refused, answer.number) {
             (0, _) => 4,
             (_, number @ 1..=3) => number as usize - 1,
             _ => 3,
         };
-        self.ends[shape as usize][run as usize][end] += 1;
-        let Some(refusal) = refusal else { return };
+        self.ends[shape as usize][call as usize][end] += 1;
+        self.short_sheets += (answer.refused == 1 && answer.number == 19) as u64;
+        self.further_reads += called.by_further_read as u64;
+        let Some(refusal) = &called.refusal else {
+            return;
+        };
         for (place, (listed, ..)) in REASONS.iter().enumerate() {
             self.reasons[place] += (*listed == refusal.reason) as u64;
         }
@@ -202,8 +290,13 @@ impl Counts {
 
     fn complete(&self) -> Result<(), String> {
         let ends = self.ends.as_flattened().as_flattened();
-        let several = [self.several_frames, self.budget_and_frames];
-        if ends.contains(&0) || self.reasons.contains(&0) || several.contains(&0) {
+        let others = [
+            self.several_frames,
+            self.budget_and_frames,
+            self.short_sheets,
+            self.further_reads,
+        ];
+        if ends.contains(&0) || self.reasons.contains(&0) || others.contains(&0) {
             Err("nothing differs, but what has the count 0 in the tables was never met".to_string())
         } else {
             Ok(())
@@ -219,9 +312,9 @@ impl Counts {
 
         head(&mut text, &[&["Call"][..], &ENDS].concat());
         for shape in SHAPES {
-            for run in RUNS {
-                let counts = self.ends[shape as usize][run as usize];
-                row(&mut text, function_name(shape, run), &counts.map(grouped));
+            for call in CALLS {
+                let counts = self.ends[shape as usize][call as usize];
+                row(&mut text, function_name(shape, call), &counts.map(grouped));
             }
         }
 
@@ -236,6 +329,11 @@ impl Counts {
         row(&mut text, "the earliest frame", &[count]);
         let count = grouped(self.budget_and_frames);
         row(&mut text, "the budget line", &[count]);
+
+        head(&mut text, &["Traced calls that end earlier", "Count"]);
+        let count = grouped(self.further_reads);
+        row(&mut text, "11 of CALL's further read", &[count]);
+        row(&mut text, "19", &[grouped(self.short_sheets)]);
         text
     }
 }

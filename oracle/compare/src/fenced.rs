@@ -3,17 +3,27 @@
 use std::iter::once;
 use std::ops::Range;
 
-use model::entry::Run;
-use ola::{guarded_run, run, Answer, Buffers, Lent, Machine, Marks, Program};
+use ola::{guarded_run, run, traced_run, Answer, Buffers, Lent, Machine, Marks, Program};
 
 const FENCE: u64 = 0xFE4C_EFE4_CEFE_4CEF;
+const FENCE_BYTE: u8 = 0xFE;
 const WIDTH: usize = 8;
 
-/// The buffers in one piece of memory, and the records in another, each between fences.
+/// The calls that run.
+#[derive(Debug, Clone, Copy, PartialEq, Eq)]
+pub enum Call {
+    Plain,
+    Guarded,
+    Traced,
+}
+
+/// The buffers in one piece of memory, the sheet and the records in others, each between fences.
 pub struct Fenced {
     memory: Vec<u64>,
     /// Addresses, numbers, marks, tape, output.
     ranges: [Range<usize>; 5],
+    /// With its fences.
+    sheet: Vec<u8>,
     records: Records,
 }
 
@@ -29,7 +39,8 @@ struct Records {
 }
 
 impl Fenced {
-    pub fn new(lent: &Lent) -> Fenced {
+    /// The sheet is that of a traced call; the others are not lent it.
+    pub fn new(lent: &Lent, sheet: &[u8]) -> Fenced {
         let buffers = [
             &lent.buffers.addresses,
             &lent.buffers.numbers,
@@ -48,6 +59,7 @@ impl Fenced {
         Fenced {
             memory,
             ranges,
+            sheet: [&[FENCE_BYTE; WIDTH], sheet, &[FENCE_BYTE; WIDTH]].concat(),
             records: Records {
                 before: fence,
                 machine: lent.machine,
@@ -60,7 +72,7 @@ impl Fenced {
         }
     }
 
-    pub fn call(&mut self, program: Program, kind: Run) -> Answer {
+    pub fn call(&mut self, program: Program, kind: Call) -> Answer {
         let base = self.memory.as_mut_ptr();
         let [addresses, numbers, marks, tape, output] = self.ranges.clone().map(|range| {
             // SAFETY: the ranges are inside `memory` and do not overlap.
@@ -80,10 +92,20 @@ impl Fenced {
             ..
         } = &mut self.records;
         match kind {
-            Run::Plain => run(program, machine, &mut buffers, answer),
-            Run::Guarded => guarded_run(program, machine, extras, &mut buffers, answer),
+            Call::Plain => run(program, machine, &mut buffers, answer),
+            Call::Guarded => guarded_run(program, machine, extras, &mut buffers, answer),
+            Call::Traced => {
+                let end = self.sheet.len() - WIDTH;
+                let sheet = &mut self.sheet[WIDTH..end];
+                traced_run(program, machine, &mut buffers, sheet, answer)
+            }
         }
         *answer
+    }
+
+    /// What the sheet holds now.
+    pub fn sheet(&self) -> &[u8] {
+        &self.sheet[WIDTH..self.sheet.len() - WIDTH]
     }
 
     /// What the buffers hold now.
@@ -109,7 +131,10 @@ impl Fenced {
         let mut fences = starts.zip(ends.chain(once(self.memory.len())));
         let records = &self.records;
         let stands = |fence: &[u64]| fence.iter().all(|word| *word == FENCE);
-        fences.all(|(start, end)| stands(&self.memory[start..end]))
+        let sheet_fence = [FENCE_BYTE; WIDTH];
+        self.sheet.starts_with(&sheet_fence)
+            && self.sheet.ends_with(&sheet_fence)
+            && fences.all(|(start, end)| stands(&self.memory[start..end]))
             && stands(&records.before)
             && stands(&records.after_machine)
             && stands(&records.after_extras)

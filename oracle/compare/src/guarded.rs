@@ -28,11 +28,7 @@ pub fn compare(options: &Options) -> Result<(), String> {
         compare_program(options.seed, number, &mut counts)?;
         progress.show(number);
     }
-    print!("{}", counts.tables(options));
-    if options.only.is_some() {
-        return Ok(());
-    }
-    counts.complete()
+    options.report(&counts.tables(options), counts.complete())
 }
 
 fn compare_program(seed: u64, number: u64, counts: &mut Counts) -> Result<(), String> {

@@ -14,6 +14,7 @@ mod region_edges;
 mod sides;
 mod steps;
 mod tables;
+mod traced;
 
 use std::process::ExitCode;
 
@@ -29,13 +30,20 @@ struct Part {
     compare: fn(&Options) -> Result<(), String>,
 }
 
-const PARTS: [Part; 3] = [
+const PARTS: [Part; 4] = [
     Part {
         name: "steps",
         help: "the library beside `resume`, step for step",
         count: 50_000_000,
         unit: "steps",
         compare: steps::compare,
+    },
+    Part {
+        name: "traced",
+        help: "the traced run beside `resume` with traces, line for row",
+        count: 10_000_000,
+        unit: "rows",
+        compare: traced::compare,
     },
     Part {
         name: "guarded",
@@ -46,8 +54,8 @@ const PARTS: [Part; 3] = [
     },
     Part {
         name: "damaged",
-        help: "calls with damaged states, words and texts",
-        count: 1_000_000,
+        help: "calls with damaged states, words and texts, traced ones beside plain ones",
+        count: 1_500_000,
         unit: "calls",
         compare: damaged::compare,
     },

@@ -2,6 +2,8 @@
 
 use std::ops::Range;
 
+use crate::progress::Progress;
+
 pub struct Options {
     /// How much is compared at least.
     pub count: u64,
@@ -19,6 +21,34 @@ impl Options {
         match self.only {
             Some(number) => number..number + 1,
             None => 0..self.count,
+        }
+    }
+
+    /// Draws programs until enough is compared, or one alone. `compare` says how much is, with the program of this number.
+    pub fn until(
+        &self,
+        what: &'static str,
+        mut compare: impl FnMut(u64) -> Result<u64, String>,
+    ) -> Result<(), String> {
+        if let Some(number) = self.only {
+            return compare(number).map(|_| ());
+        }
+        let mut progress = Progress::new(what, self.count);
+        let (mut number, mut done) = (0, 0);
+        while done < self.count {
+            done = compare(number)?;
+            number += 1;
+            progress.show(done);
+        }
+        Ok(())
+    }
+
+    /// Prints the tables. Everything must have been met, save by one program alone.
+    pub fn report(&self, tables: &str, complete: Result<(), String>) -> Result<(), String> {
+        print!("{tables}");
+        match self.only {
+            Some(_) => Ok(()),
+            None => complete,
         }
     }
 

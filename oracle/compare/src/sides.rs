@@ -17,29 +17,29 @@ use crate::differences::difference;
 
 /// How the single steps of a program came to their end.
 pub struct Walked {
-    steps: u64,
+    pub steps: u64,
     /// The budget with which one call comes to the same end.
-    budget: u64,
+    pub budget: u64,
     /// The last step's answer; e3 with no step where there was none.
-    last: Answer,
+    pub last: Answer,
 }
 
 pub struct Sides {
-    words: Vec<u64>,
-    code: Code,
-    source: Stepper,
+    pub words: Vec<u64>,
+    pub code: Code,
+    pub source: Stepper,
     pub library: Lent,
-    model: Model,
+    pub model: Model,
     /// So many values of the tape were compared already; `resume` can only add to it.
     tape_compared: u64,
 }
 
 impl Sides {
-    pub fn new(case: &Case) -> Sides {
+    pub fn new(case: &Case, mode: Mode) -> Sides {
         Sides {
             words: encode(&case.program),
             code: Code::new(&case.program),
-            source: Stepper::new(&case.program, &case.start, Mode::Plain),
+            source: Stepper::new(&case.program, &case.start, mode),
             library: lend(&case.start, GREATEST),
             model: Model::plain(case.start.clone(), GREATEST),
             tape_compared: 0,
@@ -86,24 +86,33 @@ impl Sides {
         let stepped = self.model.step(&self.code);
         let model = answer_of(stepped, self.model.state.clk - clk);
 
-        let expected = answer_of_source(&source)?;
-        if library != expected {
+        if model != library {
+            return Err(format!(
+                "the model answers {model:x?}, the library {library:x?}"
+            ));
+        }
+        self.same_step(&source, &library)?;
+        self.same_as_model()?;
+        Ok(library)
+    }
+
+    /// What a step of the source and one of the library answered and left.
+    pub fn same_step(
+        &mut self,
+        source: &oracle::outcome::Answer,
+        library: &Answer,
+    ) -> Result<(), String> {
+        if *library != answer_of_source(source)? {
             return Err(format!(
                 "resume answers {source:x?}, the library {library:x?}"
             ));
-        }
-        if model != expected {
-            return Err(format!("resume answers {source:x?}, the model {model:x?}"));
         }
         if let Outcome::Ended(output) = &source.outcome {
             if output != self.output() {
                 return Err(format!("resume hands back {output:x?}"));
             }
         }
-        let stands = library.steps == 1;
-        self.same_as_source(stands)?;
-        self.same_as_model()?;
-        Ok(library)
+        self.same_as_source(library.steps == 1)
     }
 
     /// A refused step leaves pc and cells as they were, which `resume` does not: these are compared with the model alone.
@@ -157,7 +166,7 @@ impl Sides {
         Ok(())
     }
 
-    fn same_as_model(&self) -> Result<(), String> {
+    pub fn same_as_model(&self) -> Result<(), String> {
         let (state, library) = (&self.model.state, &self.library);
         let buffers = &library.buffers;
         let count = library.machine.cell_count as usize;
@@ -229,16 +238,16 @@ pub const PAUSED: Answer = Answer {
 };
 
 /// An answer after which a program may be stepped further: e1, e2 and e3.
-fn goes_on(answer: &Answer) -> bool {
+pub fn goes_on(answer: &Answer) -> bool {
     answer.refused == 0 && answer.number != 0
 }
 
-fn is_call(answer: &Answer) -> bool {
+pub fn is_call(answer: &Answer) -> bool {
     answer.refused == 0 && (answer.number == 1 || answer.number == 2)
 }
 
 /// Runs through contract calls until the budget is used up: the last answer, with all steps.
-fn run_through(
+pub fn run_through(
     clk: u64,
     budget: u64,
     mut run: impl FnMut(u64) -> Result<Answer, String>,

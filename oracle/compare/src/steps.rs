@@ -4,29 +4,20 @@
 
 use oracle::answers::write_case;
 use oracle::splitmix::SplitMix64;
+use oracle::stepper::Mode;
 
 use crate::counts::StepCounts;
 use crate::generate::{self, Form};
 use crate::options::Options;
-use crate::progress::Progress;
 use crate::sides::Sides;
 
 pub fn compare(options: &Options) -> Result<(), String> {
     let mut counts = StepCounts::default();
-    let mut progress = Progress::new("steps compared", options.count);
-    if let Some(number) = options.only {
+    options.until("steps compared", |number| {
         compare_program(options.seed, number, &mut counts)?;
-        print!("{}", counts.tables(options));
-        return Ok(());
-    }
-    let mut number = 0;
-    while counts.accepted < options.count {
-        compare_program(options.seed, number, &mut counts)?;
-        number += 1;
-        progress.show(counts.accepted);
-    }
-    print!("{}", counts.tables(options));
-    counts.complete()
+        Ok(counts.accepted)
+    })?;
+    options.report(&counts.tables(options), counts.complete())
 }
 
 /// One program to its end; an error says what differs and how to see it again.
@@ -36,7 +27,7 @@ fn compare_program(seed: u64, number: u64, counts: &mut StepCounts) -> Result<()
     let case = generate::case(&mut random, form);
     counts.programs[form as usize] += 1;
 
-    let mut sides = Sides::new(&case);
+    let mut sides = Sides::new(&case, Mode::Plain);
     let compared = sides
         .walk(case.budget, counts)
         .and_then(|walked| sides.at_once(&case, walked));

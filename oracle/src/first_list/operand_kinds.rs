@@ -37,21 +37,64 @@ pub fn compared_opcodes() -> Vec<Opcode> {
         .collect()
 }
 
+/// Opcode, place and kind, as an accepted step that the source encodes may have them.
+pub fn combinations_in_rows() -> Vec<(Opcode, usize, usize)> {
+    let mut combinations = vec![];
+    for opcode in compared_opcodes() {
+        for place in 0..3 {
+            let kinds = kinds_in_rows(opcode, place);
+            combinations.extend(kinds.iter().map(|kind| (opcode, place, *kind)));
+        }
+    }
+    combinations
+}
+
+fn kinds_in_rows(opcode: Opcode, place: usize) -> &'static [usize] {
+    use Opcode::*;
+    match (place, opcode) {
+        (0, NOT | MOV | ASSERT | RC | CALL | RET | END) => &[0, 2, 3],
+        (0, JMP) => &[0],
+        (0, _) => &[2, 3],
+        (1, RET | END) => &[0, 1, 2, 3, 4],
+        (1, ASSERT) => &[2],
+        (1, MOV) => &[1, 2, 3, 4, 5],
+        (1, _) => &[1, 2, 3, 4],
+        (_, ASSERT | RC | JMP | CJMP | CALL | RET | END | TSTORE | SCCALL) => &[0, 2, 3],
+        (_, TLOAD) => &[2, 3],
+        _ => &[2],
+    }
+}
+
 fn case(random: &mut SplitMix64, opcode: Opcode, place: usize, kind: usize) -> Case {
-    let mut frame: Frame = natural_frame(random, opcode);
+    let frame = frame_with_kind(random, opcode, place, kind);
+    Case {
+        name: name_of(opcode, place, kind),
+        program: vec![frame],
+        start: random_start(random),
+        budget: 1,
+    }
+}
+
+/// A frame with an operand of this kind in this place.
+pub fn frame_with_kind(
+    random: &mut SplitMix64,
+    opcode: Opcode,
+    place: usize,
+    kind: usize,
+) -> Frame {
+    let mut frame = natural_frame(random, opcode);
     let operand = operand_of_kind(random, kind);
-    let name = ["op0", "op1", "dst"][place];
     match place {
         0 => frame.op0 = operand,
         1 => frame.op1 = operand,
         _ => frame.dst = operand,
     }
-    Case {
-        name: format!("{} with {name} of kind {kind}", opcode_of(opcode).token()),
-        program: vec![frame],
-        start: random_start(random),
-        budget: 1,
-    }
+    frame
+}
+
+pub fn name_of(opcode: Opcode, place: usize, kind: usize) -> String {
+    let place = ["op0", "op1", "dst"][place];
+    format!("{} with {place} of kind {kind}", opcode_of(opcode).token())
 }
 
 pub fn operand_of_kind(random: &mut SplitMix64, kind: usize) -> Operand {

@@ -80,6 +80,10 @@ impl Executor {
         self.0.clk = clk;
     }
 
+    pub fn set_mode(&mut self, mode: ExecuteMode) {
+        self.0.mode = mode;
+    }
+
     pub fn clk(&self) -> u64 {
         self.0.clk
     }
