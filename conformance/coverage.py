@@ -5,7 +5,7 @@ import sys
 from collections import Counter
 
 import vectors
-from covered import blanking, parts, steps
+from covered import blanking, parts, sheets, steps
 from covered.report import heading, missing, table
 from generate import DRAWN_PARTS, PARTS
 
@@ -29,6 +29,11 @@ def main():
     blanking.products_table(given)
     blanking.factors_table(given)
     blanking.uses_table(given)
+    runs = sheets.traced_runs()
+    sheets.lines_table(runs)
+    sheets.answers_table(runs)
+    sheets.capacities_table(runs)
+    sheets.calls_table(runs)
     if missing:
         sys.exit("coverage.py: the vectors do not cover: " + "; ".join(missing))
 
@@ -39,8 +44,8 @@ def vectors_table():
     for name in vectors.NAMES:
         answers = vectors.read_answers(name)
         calls = Counter(call.run.split(" ")[0] for each in answers for call in each.calls)
-        rows.append([name, len(answers), calls["plain"], calls["guarded"]])
-    table(["vectors", "cases", "plain calls", "guarded calls"], rows)
+        rows.append([name, len(answers)] + [calls[run] for run in vectors.RUNS])
+    table(["vectors", "cases"] + [f"{run} calls" for run in vectors.RUNS], rows)
     print("\nThe parts of `generated`, by what the names of their cases begin with:")
     counts = Counter(answers.name.split(" ")[1].rstrip(":") for answers in vectors.read_answers("generated"))
     table(["part", "what it has", "cases"], [[part, title, counts[part]] for part, title, _ in PARTS + DRAWN_PARTS])

@@ -4,8 +4,8 @@
 import sys
 
 from generator import (
-    capacities, clocks, digits, entry, factors, kilosteps, kinds, lengths, malformed, marks, operands, products, programs, refusals,
-    regions, registers, sizes, starts, steps, texts, values, zeros,
+    capacities, clocks, digits, drawn, entry, factors, kilosteps, kinds, lengths, lines, malformed, marks, operands, products, programs,
+    refusals, regions, registers, sheets, sizes, starts, steps, texts, traced, values, zeros,
 )  # fmt: skip
 from generator.numbers import SplitMix64
 
@@ -14,7 +14,7 @@ SEED = 0x01A57E9
 HEAD = f"""\
 # The generated vectors: cases for an implementation of the step machine. The format is described in conformance/FORMAT.md. This file is made by
 #   python3 conformance/generate.py > crates/vectors/stdin
-# Its last three parts are drawn by SplitMix64 from the seed {SEED:x}.
+# Its last four parts are drawn by SplitMix64 from the seed {SEED:x}.
 """
 
 # What a case's name begins with, what the part has, and its cases.
@@ -38,11 +38,15 @@ PARTS = [
     ("digit", "Bytes that are no digits, in a frame's line and in the budget line; each digit in each place.", digits.cases),
     ("start", "Inputs of `solve`: what it starts with, the greatest sizes, output in its order.", starts.cases),
     ("entry", "What is refused before a step.", entry.cases),
+    ("line", "Lines of a sheet: another number in every word; operands by kind, place and register, and ignored ones.", lines.cases),
+    ("traced", "Traced runs: refusals, the cell that CALL reads, forms of a program, entry, the clock's end, the budget's.", traced.cases),
+    ("sheet", "Sheets of all lengths: 19, what goes before it, and what it leaves.", sheets.cases),
 ]
 DRAWN_PARTS = [
     ("step", "Steps, drawn.", steps.cases),
     ("program", "Programs, drawn.", programs.cases),
     ("zero", "Programs of products among zeros and marks, drawn.", zeros.cases),
+    ("drawn", "Traced steps and programs, drawn.", drawn.cases),
 ]
 
 

@@ -37,8 +37,8 @@ NUMBERS = {
     "used": 3,
     "buffers": 5,
     **{buffer: MOST_VALUES for buffer in ("addresses", "numbers", "marks", "tape", "output")},
-    "plain": 1,
-    "guarded": 1,
+    "sheet": 1,
+    **{run: 1 for run in vectors.RUNS},
 }
 
 
@@ -75,10 +75,10 @@ class Files(unittest.TestCase):
         for name in vectors.NAMES:
             for case in vectors.read_cases(name):
                 words = [line.split(" ")[0] for line in case.lines if line and line[0] != "#"]
-                first_run = min(words.index(run) for run in ("plain", "guarded") if run in words)
+                first_run = min(words.index(run) for run in vectors.RUNS if run in words)
                 given, runs = words[:first_run], words[first_run:]
                 repeated = [word for word, count in Counter(given).items() if count > 1 and word not in ("line", "zeros")]
-                self.assertEqual((repeated, set(runs) - {"plain", "guarded"}), ([], set()), case.name())
+                self.assertEqual((repeated, set(runs) - {*vectors.RUNS}), ([], set()), case.name())
                 self.assertFalse("words" in given and ("line" in given or "zeros" in given), case.name())
 
     def test_no_program_is_longer_than_the_format_says(self):
@@ -102,6 +102,41 @@ class Files(unittest.TestCase):
         for name in vectors.NAMES:
             answers = vectors.read(vectors.FOLDER / f"{name}.answers")
             self.assertRegex(answers, rb"\A([ -~]+\n)+\Z")
+
+    def test_two_characters_tell_lines_apart(self):
+        rows = re.findall(r"^\| `.*$", (HERE / "FORMAT.md").read_text(), re.MULTILINE)
+        words = {word for row in rows for word in re.findall(r"`([a-z]+)\b", row)}
+        self.assertEqual(words, {*NUMBERS, "case", "line"})
+        self.assertEqual(len({word[:2] for word in words}), len(words))
+
+    def test_a_sheet_is_no_longer_than_the_format_says(self):
+        for name in vectors.NAMES:
+            lines = [line for case in vectors.read_cases(name) for line in case.lines if line.startswith("sheet ")]
+            self.assertLessEqual(max([int(line.split(" ")[1], 16) for line in lines], default=0), MOST_VALUES)
+
+    def test_the_lines_of_a_whole_run_are_those_of_its_steps(self):
+        count = 0
+        for name in vectors.NAMES:
+            for answers in vectors.read_answers(name):
+                for run in {call.run for call in answers.calls if call.run.startswith("traced ")}:
+                    *steps, whole = [call.lines for call in answers.calls if call.run == run]
+                    done = int(whole[0].split(" ")[2], 16)
+                    # Of a single step the whole run writes nothing again.
+                    if done > 1:
+                        single = [vectors.pieces_of(lines)[0] for lines in steps[:done]]
+                        self.assertEqual(vectors.pieces_of(whole), dict(enumerate(single)), answers.name)
+                        count += 1
+        self.assertGreater(count, 0)
+
+    def test_the_traced_example_of_the_format_is_a_vector(self):
+        lines = [line.strip() for line in (HERE / "FORMAT.md").read_text().splitlines() if line.startswith("    ")]
+        name = "case sheet: a MOV and a MUL, 201 bytes"
+        at, then = (place for place, line in enumerate(lines) if line == name)
+        (case,) = [case for case in vectors.read_cases("generated") if case.lines[0] == name]
+        (answers,) = [answers for answers in vectors.read_answers("generated") if answers.name == name]
+        self.assertEqual(lines[at:then], [line for line in case.lines if line])
+        run, *written = lines[then + 1 :]
+        self.assertEqual((run, written), (answers.calls[0].run, [line for call in answers.calls for line in call.lines]))
 
     def test_a_line_holds_nul_and_bytes_above_127(self):
         lines = [line for case in vectors.read_cases("generated") for line in case.lines if line.startswith("line ")]

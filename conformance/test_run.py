@@ -8,7 +8,7 @@ from pathlib import Path
 
 HERE = Path(__file__).parent
 ANSWERS = HERE / "vectors" / "worked.answers"
-CASES = 544
+CASES = 626
 SOLVE_INPUTS = 37
 
 
@@ -86,6 +86,34 @@ class Runner(unittest.TestCase):
         command = [sys.executable, str(HERE / "run.py"), "/no/such/command"]
         done = subprocess.run(command, stdout=subprocess.DEVNULL, stderr=subprocess.PIPE, check=False, text=True)
         self.assertEqual((done.returncode, done.stderr), (1, "/no/such/command cannot be run: No such file or directory\n"))
+
+
+class Sheets(unittest.TestCase):
+    """An implementation that writes the stored answers of one traced case after `change`."""
+
+    NAME = "sheet: a MOV and a MUL, 201 bytes"
+
+    def play(self, change):
+        answers, name = str(HERE / "vectors" / "generated.answers"), f"case {self.NAME}".encode()
+        program = f"import sys; sys.stdin.buffer.read(); data = open({answers!r}, 'rb').read(); at = data.index({name!r}); "
+        program += f"data = data[at : data.index(b'case ', at + 1)]; {change}; sys.stdout.buffer.write(data)"
+        status, lines = play(program, ["--only", "generated", "--match", self.NAME])
+        return status, "\n".join(lines)
+
+    def test_as_stored(self):
+        status, shown = self.play("pass")
+        self.assertEqual((status, shown.splitlines()[-1]), (0, "1 passed, 0 failed"))
+
+    def test_another_line(self):
+        status, shown = self.play("data = data.replace(b'6\\n', b'3\\n', 1)")
+        self.assertEqual((status, shown.splitlines()[-1]), (1, "0 passed, 1 failed"))
+        for what, end in (("expected", "6"), ("written", "3")):
+            self.assertRegex(shown, f"{what}, traced 2, step 1:\n  e3 1 2 1 0\n  registers 1=5\n  sheet 0 [0-9]{{255}}{end}\n")
+
+    def test_bytes_that_were_not_written(self):
+        status, shown = self.play("data += b'sheet 1 ' + b'\\xee' * 2 + b'\\0\\n'")
+        self.assertEqual(status, 1)
+        self.assertIn("\n  sheet 1 \\xee\\xee\\x00\n", shown)
 
 
 class Solve(unittest.TestCase):

@@ -22,6 +22,9 @@ VERSION = read(Path(__file__).parent / "VERSION").decode().strip()
 # From the most readable one to the largest.
 NAMES = ["worked", "replayed", "generated"]
 
+# The lines that run a case.
+RUNS = ("plain", "guarded", "traced")
+
 # What stands in the unused places of a case's buffers.
 UNUSED = "eeeeeeeeeeeeeeee"
 
@@ -39,7 +42,7 @@ class Case(NamedTuple):
 
 
 class Call(NamedTuple):
-    """A call: the line plain or guarded that it belongs to, and the lines written for it, its answer first."""
+    """A call: the line plain, guarded or traced that it belongs to, and the lines written for it, its answer first."""
 
     run: str
     lines: list
@@ -81,7 +84,7 @@ def parse_answers(data):
             run = ""
         elif not answers:
             before.append(line)
-        elif line.startswith(("plain", "guarded")):
+        elif line.startswith(RUNS):
             run = line
             answers[-1].calls.append(Call(run, []))
         elif answers[-1].calls and (not ANSWER.match(line) or not answers[-1].calls[-1].lines):
@@ -91,8 +94,14 @@ def parse_answers(data):
     return answers, before
 
 
+def pieces_of(lines):
+    """The pieces of a sheet among the lines of a call, by their numbers."""
+    pieces = [line.split(" ", 2) for line in lines if line.startswith("sheet ")]
+    return {int(number, 16): piece for _, number, piece in pieces}
+
+
 def solve_input(case):
-    """The text of a case that is an input of `solve`: it has a budget line and gives no state. Of other cases None."""
+    """The text of a case that is an input of `solve`: it has a budget line and gives no state; a sheet is none. Of other cases None."""
     text = ""
     for line in case.lines:
         word, _, rest = line.partition(" ")
@@ -100,7 +109,7 @@ def solve_input(case):
             text += rest + "\n"
         elif word == "zeros":
             text += "0" * int(rest, 16)
-        elif word not in ("", "case", "plain", "guarded") and not word.startswith("#"):
+        elif word not in ("", "case", "sheet", *RUNS) and not word.startswith("#"):
             return None
     return text.encode("latin-1") if "plain" in case.lines else None
 

@@ -7,7 +7,10 @@ from covered.report import heading, require_each, table
 from generator.frames import KINDS, OPCODES, PLACES, UNCOVERED, WITH_VALUE
 
 OUTCOMES = ["e0", "e1", "e2", "e3"]
-REFUSALS = [str(number) for number in range(1, 19)]
+REFUSALS = [str(number) for number in range(1, 20)]
+
+# Those that one run alone has.
+OWN = {"18": "guarded", "19": "traced"}
 ENTRY_REFUSALS = REFUSALS[:3]
 
 
@@ -68,9 +71,8 @@ def kinds_of(word):
 def answers_table(steps):
     heading("Outcomes and refusals")
     counts = Counter((run, answer) for run, _, answer in steps)
-    rows = [[answer, counts["plain", answer], counts["guarded", answer]] for answer in OUTCOMES + REFUSALS]
-    require_each({row[0]: row[2] if row[0] == "18" else row[1] for row in rows}, "answer")
-    table(["answer", "plain", "guarded"], rows)
+    require_each({answer: counts[OWN.get(answer, "plain"), answer] for answer in OUTCOMES + REFUSALS}, "answer")
+    table(["answer", *vectors.RUNS], [[answer] + [counts[run, answer] for run in vectors.RUNS] for answer in OUTCOMES + REFUSALS])
 
 
 def opcodes_table(steps):

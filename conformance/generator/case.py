@@ -29,10 +29,13 @@ class Case:
     cell_capacity: int = MOST_CELLS
     tape_capacity: int = MOST_VALUES
     output_capacity: int = MOST_VALUES
+    # The bytes of the sheet, where they are not the most that a case may give.
+    sheet: int = None
     # Lines that take the place of those above, by their first word.
     damage: dict = field(default_factory=dict)
-    # With each of them there is a plain and a guarded run; with None the text has the budget.
+    # With each budget there is each of these runs; with None the text has the budget.
     budgets: tuple = (1,)
+    runs: tuple = ("plain", "guarded")
 
     def lines(self):
         registers = [self.registers.get(number, 0) for number in range(REGISTER_COUNT)]
@@ -51,6 +54,7 @@ class Case:
             "marks": marks,
             "tape": self.tape,
             "output": self.output,
+            "sheet": [] if self.sheet is None else [self.sheet],
         }
         return {**lines, **self.damage}
 
@@ -64,6 +68,6 @@ class Case:
             if numbers:
                 text += numbers_line(word, numbers)
         for budget in self.budgets:
-            for run in ("plain", "guarded"):
+            for run in self.runs:
                 text += numbers_line(run, [] if budget is None else [budget])
         return text

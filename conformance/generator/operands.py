@@ -28,7 +28,7 @@ def parts(kind, value):
     if kind == OFFSET:
         return P - 1, (value + 1) % P
     if kind == FACTOR:
-        return P - 1, P - value
+        return P - 1, -value % P
     return value, value
 
 
