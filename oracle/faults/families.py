@@ -8,6 +8,7 @@ DECIDE = "oracle/model/src/decide.rs"
 ENTRY = "oracle/model/src/entry.rs"
 FRAMES = "oracle/model/src/frames.rs"
 READING = "oracle/model/src/reading.rs"
+TRACED = "oracle/model/src/traced.rs"
 
 COVERED = [opcode for opcode in OPCODES if opcode not in UNCOVERED]
 
@@ -76,9 +77,22 @@ SINKS = (
 )
 
 
+PLACES = ["op0", "op1", "dst"]
+
+# The places that an opcode's line shows.
+SHOWN = {
+    **{opcode: [0, 1, 2] for opcode in "ADD MUL EQ NEQ AND OR XOR GTE MLOAD MSTORE".split()},
+    **{opcode: [1, 2] for opcode in "NOT MOV".split()},
+    **{opcode: [1] for opcode in "ASSERT RC JMP CJMP CALL".split()},
+    **{opcode: [0, 1] for opcode in "TLOAD TSTORE SCCALL".split()},
+    **{opcode: [] for opcode in "RET END".split()},
+}
+
+
 def all_slips():
     programs = [*lengths(), *line_ends(), *digits(), *first_words(), *selectors()]
-    return [*programs, *values(), *kinds(), *registers(), *uncovered(), *sinks(), *factors(), *products()]
+    steps = [*values(), *kinds(), *registers(), *uncovered(), *sinks(), *factors(), *products()]
+    return [*programs, *steps, *shown(), *shown_bare(), *short_sheets()]
 
 
 def lengths():
@@ -245,6 +259,46 @@ def mark_of_mul(name, mark):
     old = "                    product(a, b)?"
     new = ["                    let product = product(a, b)?;", f"                    Number {{ marked: {mark}, ..product }}"]
     return Edit(name, ["blanking"], DECIDE, [old], new)
+
+
+def shown():
+    """The line of one opcode lacks a number that it has to show, or shows 0 for one that is absent."""
+    for opcode in COVERED:
+        for place, name in enumerate(PLACES):
+            other, verb = ("None", "lacks") if place in SHOWN[opcode] else ("Some(0)", "shows")
+            change = f"shown[{place}] = {other}"
+            yield line_of(f"the_line_of_{opcode}_{verb}_{name}", f"frame.opcode == Opcode::{opcode}", change)
+
+
+def shown_bare():
+    """The line of one opcode has the bare register of an offset or a factor."""
+    for opcode, place in VALUES:
+        if PLACES.index(place) in SHOWN[opcode]:
+            for kind in ("Offset", "Factor"):
+                bare = "Some(self.state.registers[register])"
+                change = f"if let crate::frames::Operand::{kind}(register, _) = frame.{place} {{ shown[{PLACES.index(place)}] = {bare} }}"
+                name = f"the_line_of_{opcode}_has_the_register_of_{kind.lower()}_{place}"
+                yield line_of(name, f"frame.opcode == Opcode::{opcode}", change)
+
+
+def line_of(name, condition, change):
+    """Other numbers are shown in a line."""
+    old = "        Ok(self.line(shown))"
+    new = ["        let mut shown = shown;", f"        if {condition} {{ {change}; }}", old]
+    return Edit(name, ["lines of the sheet"], TRACED, [old], new)
+
+
+def short_sheets():
+    """Too short a sheet goes before another refusal."""
+    old = "            let line = model.next_line(code)?;"
+    for number in range(4, 17):
+        new = [
+            "            let line = model.next_line(code).map_err(|stop| {",
+            f"                let is_short = sheet.len() < used + LINE_BYTES && stop == Stop::Refused({number});",
+            "                if is_short { Stop::Refused(19) } else { stop }",
+            "            })?;",
+        ]
+        yield Edit(f"19_goes_before_{number}", ["refusal 19"], TRACED, [old], new)
 
 
 def changed(name, purpose, opcode, place, pattern, condition, operand):

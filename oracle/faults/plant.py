@@ -27,7 +27,7 @@ PROGRAMS = ["cases", "replay", "every_byte"]
 # one that comes after it is not waited for.
 BUILD = "the native program at -O3"
 
-REFUSALS = range(1, 19)
+REFUSALS = range(1, 20)
 
 MARK_RULES = [
     "a result is marked where op0 is",
@@ -59,7 +59,14 @@ SINKS = (
 )
 
 # Rules of document 02.
-REQUESTS = ["the earliest malformed frame", "kilosteps at the half", "eight digits together"]
+REQUESTS = [
+    "the earliest malformed frame",
+    "kilosteps at the half",
+    "eight digits together",
+    "lines of the sheet",
+    "CALL's further read",
+    "traced calls",
+]
 
 BLANKING_RULES = [
     "an unmarked 0 of op0 blanks a product",

@@ -4,8 +4,8 @@
 A slip is a single mistake that another supplier of the machine could make. Those of the folder slips are written out, by the sections of
 conformance/RULES.md; those of families.py have one form each and are planted at every opcode, byte or operand. A slip gives wrong answers
 and does not make the model panic. The copy's player `play-model` plays the vectors, and the cases that it gets wrong are counted: by file,
-the generated ones by part, and by the runs, plain and guarded, that are wrong in them. Progress goes to standard error, a table by topic
-and one of all slips to standard output. The script fails where
+the generated ones by part, and by the runs, plain, guarded and traced, that are wrong in them. Progress goes to standard error, a table by
+topic and one of all slips to standard output. The script fails where
 
 - the unchanged copy gets a case wrong,
 - a slip is noticed by no case, does not build, or keeps the player from ending,
@@ -40,7 +40,7 @@ SECONDS = 60
 VECTORS = {name: [vectors.read(vectors.FOLDER / f"{name}.{kind}") for kind in ("cases", "answers")] for name in vectors.NAMES}
 
 # Where the answers of a run begin among those of a case.
-RUN = re.compile(r"\n(?=plain|guarded)")
+RUN = re.compile(r"\n(?=plain|guarded|traced)")
 
 # What must have slips, in the words of the lines `for:`.
 TOPICS = [
@@ -50,10 +50,12 @@ TOPICS = [
     *[f"opcode {opcode}" for opcode in families.COVERED],
     *["reading", "spans", "storing", "tape", "capacity", "budget", "clock", "sinks", "marks", "blanking"],
     *["what is left", "answers", "kilosteps", "plain calls"],
+    *["traced calls", "lines of the sheet", "refusal 19", "CALL's further read"],
 ]
 
 # What one kind of run alone has.
 PLAIN_ALONE = {"plain calls"}
+TRACED_ALONE = {"traced calls", "lines of the sheet", "refusal 19", "CALL's further read"}
 GUARDED_ALONE = {"marks at entry", "marks of operands", "sinks", "marks", "blanking"}
 
 
@@ -135,9 +137,11 @@ def in_words(counts):
 
 
 def runs_of(slip):
-    """The kinds of runs that must notice a slip: what it stands for may be in one of them alone."""
+    """The kinds of runs that must notice a slip: what it stands for may be in one of them alone. A traced run is a plain one."""
     if PLAIN_ALONE.intersection(slip.stands_for):
         return ["plain"]
+    if TRACED_ALONE.intersection(slip.stands_for):
+        return ["traced"]
     return ["guarded"] if GUARDED_ALONE.intersection(slip.stands_for) else ["plain", "guarded"]
 
 
