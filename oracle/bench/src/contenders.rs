@@ -1,4 +1,5 @@
-//! The three that take the same program and buffers: the yardstick, and the library's plain and guarded run.
+//! The three that take the same program and buffers: the yardstick, and the library's plain and guarded run. The traced run takes a sheet
+//! too.
 
 use ola::{Answer, Lent, Program};
 
@@ -22,10 +23,7 @@ pub struct Calls {
 impl Calls {
     /// For each contender, nanoseconds a call.
     pub fn tries(&self) -> [Try<'_>; 3] {
-        let program = Program::Words {
-            words: &self.words,
-            budget: self.budget,
-        };
+        let program = self.program();
         [
             Box::new(|| self.time(|lent| yardstick::run(&self.words, self.budget, lent))),
             Box::new(move || self.time(|lent| lent.run(program))),
@@ -33,7 +31,19 @@ impl Calls {
         ]
     }
 
-    fn time(&self, call: impl Fn(&mut Lent) -> Answer) -> f64 {
+    /// Nanoseconds a traced call, whose sheet has to have a line for each step.
+    pub fn traced(&self, sheet: &mut [u8]) -> f64 {
+        self.time(|lent| lent.traced_run(self.program(), sheet))
+    }
+
+    fn program(&self) -> Program<'_> {
+        Program::Words {
+            words: &self.words,
+            budget: self.budget,
+        }
+    }
+
+    fn time(&self, mut call: impl FnMut(&mut Lent) -> Answer) -> f64 {
         let mut lent = self.start.clone();
         let (time, ()) = timed(|| {
             for _ in 0..self.count {

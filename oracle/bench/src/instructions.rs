@@ -4,31 +4,45 @@
 use std::env::current_exe;
 use std::process::Command;
 
-use crate::contenders::{GUARDED, PLAIN, YARDSTICK};
-use crate::programs;
+use ola::LINE_BYTES;
+
+use crate::contenders::{Calls, GUARDED, PLAIN, YARDSTICK};
+use crate::programs::{self, Workload};
 use crate::steps::calls;
 
 const FEW: u64 = 2_000;
 const MANY: u64 = 9_000;
 
-/// The columns: a contender, and whether its start has marks.
-const COLUMNS: [(&str, usize, bool); 4] = [
-    ("yardstick", YARDSTICK, false),
-    ("plain", PLAIN, false),
-    ("guarded run", GUARDED, false),
-    ("guarded run, with marks", GUARDED, true),
+/// Makes one of the calls without and with marks. A sheet is lent to it.
+type Run = fn(&[Calls; 2], &mut [u8]) -> f64;
+
+const COLUMNS: [(&str, Run); 5] = [
+    ("yardstick", |[calls, _], _| calls.tries()[YARDSTICK]()),
+    ("plain", |[calls, _], _| calls.tries()[PLAIN]()),
+    ("guarded run", |[calls, _], _| calls.tries()[GUARDED]()),
+    ("guarded run, with marks", |[_, marked], _| {
+        marked.tries()[GUARDED]()
+    }),
+    ("traced run", |[calls, _], sheet| calls.traced(sheet)),
 ];
 
 /// The option by which the benchmark is told to do no more than one counted run.
 pub const COUNTED: &str = "--counted";
 
+/// The programs whose steps are timed, and one step in programs of three lengths.
+fn rows() -> Vec<Vec<Workload>> {
+    let lengths = programs::lengths().map(|workload| vec![workload]);
+    programs::rows().into_iter().chain(lengths).collect()
+}
+
 pub fn table() -> Result<String, String> {
     let names: Vec<&str> = COLUMNS.iter().map(|column| column.0).collect();
     let mut text = format!(
-        "| program | {} |\n|---|---|---|---|---|\n",
-        names.join(" | ")
+        "| program | {} |\n|---|{}\n",
+        names.join(" | "),
+        "---|".repeat(COLUMNS.len())
     );
-    for (row, workloads) in programs::rows().iter().enumerate() {
+    for (row, workloads) in rows().iter().enumerate() {
         eprintln!("bench: instructions, {}", workloads[0].name);
         let steps = (MANY - FEW) as f64 * workloads.len() as f64;
         text += &format!("| {} |", workloads[0].name);
@@ -69,9 +83,11 @@ pub fn run(arguments: &[String]) -> Result<(), String> {
             "{COUNTED} takes a row, a column and a number of steps"
         ));
     };
-    let (_, contender, with_marks) = COLUMNS[column];
-    for workload in &programs::rows()[row] {
-        calls(workload, steps as u64)[with_marks as usize].tries()[contender]();
+    let (_, run) = COLUMNS[column];
+    // As long for few steps as for many, so that making it is not among what the steps take.
+    let mut sheet = vec![0; MANY as usize * LINE_BYTES];
+    for workload in &rows()[row] {
+        run(&calls(workload, steps as u64), &mut sheet);
     }
     Ok(())
 }

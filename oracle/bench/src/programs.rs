@@ -181,6 +181,16 @@ pub fn of_length(frames: usize) -> Vec<Frame> {
     std::iter::once(jump(0)).chain(rest).collect()
 }
 
+/// One step, JMP, in programs of three lengths. Their times are not measured.
+pub fn lengths() -> [Workload; 3] {
+    [
+        ("JMP in 5 frames", 5),
+        ("JMP in 100 frames", 100),
+        ("JMP in 512 frames", 512),
+    ]
+    .map(|(name, frames)| workload(name, 0.0, f64::INFINITY, of_length(frames)))
+}
+
 /// Programs drawn from a seed. R0 to R3 have any number below p, R4 to R7 small ones, R8 is marked in the guarded run, R9 points
 /// into the stack. Cells 0 to 255 are present, those from 240 on are for calls.
 fn generated() -> Vec<Workload> {

@@ -6,11 +6,13 @@ use std::thread;
 use model::frames::encode;
 use model::lending::{lend, GREATEST};
 use model::state::State;
-use ola::{Lent, Program};
+use ola::{Lent, Program, LINE_BYTES};
 
 use crate::programs;
 use crate::text::as_text;
 
+/// Steps of each call.
+const STEPS: u64 = 1000;
 const STACK: usize = 4 << 20;
 /// Words below the call that are painted: more than any call takes, less than the stack has.
 const PAINTED: usize = 1 << 16;
@@ -23,14 +25,16 @@ pub fn table() -> String {
     let frames = programs::of_length(512);
     let words = encode(&frames);
     let text = as_text(&frames);
-    let words = Program::Words {
+    let [words, longer_words] = [STEPS, STEPS + 1].map(|budget| Program::Words {
         words: &words,
-        budget: 1000,
-    };
-    let text = Program::Text {
+        budget,
+    });
+    let [text, longer_text] = [STEPS, STEPS + 1].map(|budget| Program::Text {
         text: text.as_bytes(),
-        budget: 1000,
-    };
+        budget,
+    });
+    // Too short for the last step of the longer runs: it is tried on copies, which lie on the stack.
+    let mut sheet = vec![0; STEPS as usize * LINE_BYTES];
     let mut table = String::from("| call | stack, bytes |\n|---|---|\n");
     for (name, used) in [
         ("plain, bare words", of_call(|lent| lent.run(words).steps)),
@@ -43,6 +47,14 @@ pub fn table() -> String {
             "guarded run, text",
             of_call(|lent| lent.guarded_run(text).steps),
         ),
+        (
+            "traced run, bare words",
+            of_call(|lent| lent.traced_run(longer_words, &mut sheet).steps),
+        ),
+        (
+            "traced run, text",
+            of_call(|lent| lent.traced_run(longer_text, &mut sheet).steps),
+        ),
     ] {
         table += &format!("| {name} | {used} |\n");
     }
@@ -50,7 +62,7 @@ pub fn table() -> String {
 }
 
 /// In a thread of its own, whose stack is known to be large enough.
-fn of_call(call: impl Fn(&mut Lent) -> u64 + Send) -> usize {
+fn of_call(mut call: impl FnMut(&mut Lent) -> u64 + Send) -> usize {
     let mut lent = lend(&State::default(), GREATEST);
     thread::scope(|scope| {
         let measured = thread::Builder::new()
@@ -73,7 +85,7 @@ fn painted_call(mut call: impl FnMut() -> u64) -> usize {
             top.sub(below).write_volatile(PAINT);
         }
     }
-    assert_eq!(black_box(call()), 1000, "the call does its steps");
+    assert_eq!(black_box(call()), STEPS, "the call does its steps");
     let mut used = PAINTED;
     // SAFETY: as above.
     unsafe {
