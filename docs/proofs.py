@@ -13,7 +13,8 @@ import sys
 ROOT = pathlib.Path(__file__).resolve().parent.parent
 PAGE = ROOT / "docs" / "PROOFS.md"
 
-# The definitions among the modules of crates/rules/specs; those after them are statements, and then tables of cases.
+# The crates whose specs/ have definitions and then statements; in rules the last of these are tables of cases.
+DEFINING = ["rules", "sheets"]
 DEFINITIONS_END = "-- statements"
 STATEMENTS_END = "-- tables"
 
@@ -84,7 +85,7 @@ def statements(crate):
     for path in sorted((ROOT / "crates" / crate / "specs").glob("*.antt")):
         lines = path.read_text().splitlines()
         for at, line in enumerate(lines):
-            named = re.match(r"(?:pub record|abbrev pub) ([A-Z]\w*)", line)
+            named = re.match(r" *(?:pub record|abbrev pub) ([A-Z]\w*)", line)
             if named and not re.search(rf"\b{named.group(1)}\b", code):
                 found[named.group(1)] = (path.stem, comment_above(lines, at) or section(lines, at))
     return found
@@ -133,26 +134,25 @@ def theorems(crate):
             if name in stated:
                 module, comment = stated[name]
                 where = path.relative_to(proofs).with_suffix("").as_posix()
-                found.setdefault(module, []).append((named.group(1), where, name, comment_above(lines, at) or comment))
+                found.setdefault(module, []).append((named.group(1), where, name, comment_above(lines, at) or comment or "the headline"))
     return found
 
 
-def groups():
-    """The modules of crates/rules/specs, as definitions, statements and tables."""
+def groups(crate):
+    """The modules of a defining crate's specs/, as definitions, statements and tables; none where a crate has no such."""
     kinds = {"definitions": [], "statements": [], "tables": []}
     kind = "definitions"
-    for line in (ROOT / "crates/rules/specs/Lib.antt").read_text().splitlines():
+    for line in (ROOT / "crates" / crate / "specs/Lib.antt").read_text().splitlines():
         if line.startswith(DEFINITIONS_END):
             kind = "statements"
         elif line.startswith(STATEMENTS_END):
             kind = "tables"
         elif line.startswith("pub mod "):
             kinds[kind].append(line[len("pub mod "):])
-    return kinds
+    return {kind: modules for kind, modules in kinds.items() if modules}
 
 
 def page():
-    specs = ROOT / "crates" / "rules" / "specs"
     out = [
         "# The theorems",
         "",
@@ -160,16 +160,19 @@ def page():
         "",
         "## What a reader has to believe",
         "",
-        "Lines without comments, imports and blank ones. The definitions say what the machine does; the statements say what is proved of it.",
-        "The proofs have to be believed by nobody: the checker reads them.",
+        "Lines without comments, imports and blank ones. The definitions say what the machine does, those of sheets what the traced run",
+        "adds to it; the statements say what is proved of them, in sheets a table of cases among them. The proofs have to be believed by",
+        "nobody: the checker reads them.",
         "",
-        "| in crates/rules/specs | modules | lines |",
-        "|---|---|---|",
+        "| in | what | modules | lines |",
+        "|---|---|---|---|",
     ]
-    for kind, modules in groups().items():
-        count = sum(lines_to_believe(specs / f"{module}.antt") for module in modules)
-        out.append(f"| {kind} | {len(modules)} | {count} |")
-    others = [crate for crate in crates() if crate != "rules" and (ROOT / "crates" / crate / "specs").is_dir()]
+    for crate in DEFINING:
+        specs = ROOT / "crates" / crate / "specs"
+        for kind, modules in groups(crate).items():
+            count = sum(lines_to_believe(specs / f"{module}.antt") for module in modules)
+            out.append(f"| crates/{crate}/specs | {kind} | {len(modules)} | {count} |")
+    others = [crate for crate in crates() if crate not in DEFINING and (ROOT / "crates" / crate / "specs").is_dir()]
     count = sum(lines_to_believe(path) for crate in others for path in (ROOT / "crates" / crate / "specs").glob("*.antt"))
     out += [
         "",
