@@ -11,4 +11,6 @@ pub mod Soundness
 pub mod Resumption
 pub mod KilostepsRounded
 pub mod TapeWraps
+pub mod MomentsKept
+pub mod MomentsUnused
 pub mod SolveLines

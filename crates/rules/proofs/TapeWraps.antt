@@ -8,6 +8,7 @@ use lib.Dec.{leb, eqb}
 use lib.ListN.{length, take, drop, replicate, length-take, length-drop, length-replicate}
 use borrow.Author.Tests.{leb-true, le-ltb, le-leb}
 use Rattle.rules.specs.declared.Instruction.{Instruction}
+use Rattle.rules.specs.declared.Held.{Held}
 use Rattle.rules.specs.declared.Refusal.{Refusal}
 use Rattle.rules.specs.declared.Refusal.the-variants.{TapeFault, StoreFault, ProphetStore}
 use Rattle.rules.specs.Numbers.{p, heapEnd, wordEnd, valueLimit, choose}
@@ -38,30 +39,30 @@ unfolding require
 refused-anyway true f = refl
 refused-anyway false f = refl
 
-module _ (numberMemory : Memory ℕ) where
+module _ (numberMemory : Memory Held) where
   open Memory numberMemory using (Mem)
 
   -- from p on nothing is stored: whatever the number
-  refused-from-p : (c : Mem) (a v : ℕ) (vs : List ℕ) → p ≤ a → storeMany numberMemory c a (v ∷ vs) ≡ refuse StoreFault
+  refused-from-p : (moment : ℕ) (c : Mem) (a v : ℕ) (vs : List ℕ) → p ≤ a → storeMany numberMemory moment c a (v ∷ vs) ≡ refuse StoreFault
   unfolding storeMany require
-  refused-from-p c a v vs h = rw (le-ltb a p h) (refused-anyway (isStorable v) StoreFault)
+  refused-from-p m c a v vs h = rw (le-ltb a p h) (refused-anyway (isStorable v) StoreFault)
 
-  without-test : {A : Type 0} (c : Mem) (a : ℕ) (vs : List ℕ) (k : Mem → Result A) → length vs ≤ 0xFFFFFFFF
-      → require (not (wraps a vs)) StoreFault (bind (storeMany numberMemory c a vs) k) ≡ bind (storeMany numberMemory c a vs) k
+  without-test : {A : Type 0} (moment : ℕ) (c : Mem) (a : ℕ) (vs : List ℕ) (k : Mem → Result A) → length vs ≤ 0xFFFFFFFF
+      → require (not (wraps a vs)) StoreFault (bind (storeMany numberMemory moment c a vs) k) ≡ bind (storeMany numberMemory moment c a vs) k
   unfolding require bind p wordEnd
-  without-test c a [] k h = refl
-  without-test c a (v ∷ vs) k h = go (leb wordEnd (a + length (v ∷ vs))) refl
+  without-test m c a [] k h = refl
+  without-test m c a (v ∷ vs) k h = go (leb wordEnd (a + length (v ∷ vs))) refl
     where
       go : (t : Bool) → leb wordEnd (a + length (v ∷ vs)) ≡ t
-          → require (not t) StoreFault (bind (storeMany numberMemory c a (v ∷ vs)) k) ≡ bind (storeMany numberMemory c a (v ∷ vs)) k
-      go true e = let l = leb-true wordEnd (a + length (v ∷ vs)) e in rw (refused-from-p c a v vs (omega arith))
+          → require (not t) StoreFault (bind (storeMany numberMemory m c a (v ∷ vs)) k) ≡ bind (storeMany numberMemory m c a (v ∷ vs)) k
+      go true e = let l = leb-true wordEnd (a + length (v ∷ vs)) e in rw (refused-from-p m c a v vs (omega arith))
       go false e = refl
 
   pub short-tape : (e : Environment) (s : State numberMemory) → length (s .tape) ≤ 0xFFFFFFFF → DecidesNothing numberMemory e s
   unfolding operate
   short-tape e s h i o =
       ap (require (onTape (o .op0) (o .op1) (s .tape)) TapeFault)
-      (without-test (s .cells) (o .dst) (tapeValues (o .op0) (o .op1) (s .tape)) _ (omega (arith, values-short (o .op0) (o .op1) (s .tape))))
+      (without-test (s .clk) (s .cells) (o .dst) (tapeValues (o .op0) (o .op1) (s .tape)) _ (omega (arith, values-short (o .op0) (o .op1) (s .tape))))
 
   -- a tape of 2^32 values
   longer-tape : (e : Environment) (s : State numberMemory) (n : ℕ) → n ≡ 0xFFFFFFFF → s .tape ≡ replicate (suc n) 0 → (i : Instruction)
@@ -90,8 +91,8 @@ wrap-test =
       shortTape = short-tape;
       longerTape = λ numberMemory e s t i. longer-tape numberMemory e s 0xFFFFFFFF refl t i;
       plainCalls = λ program s ten t steps.
-          short-tape numberCells _ _ (few (run-sound _ steps _ (entry-sound program s ten t) .tapeFits) (all-at _ t 6));
+          short-tape numberCells _ _ (few (run-sound _ steps _ (entry-sound program s ten t) .tapeFits) (all-at _ t 7));
       guardedCalls = λ program g ten t steps.
           let h : GuardedSound (environment program (g .plain)) (guardedRunOf program steps g .state) = guarded-run-sound _ steps _ (guarded-entry-sound program g ten t) in
-          short-tape numberCells _ _ (few (h .plain .tapeFits) (all-at _ (all-at _ t 0) 6));
+          short-tape numberCells _ _ (few (h .plain .tapeFits) (all-at _ (all-at _ t 0) 7));
     }

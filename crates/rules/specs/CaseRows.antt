@@ -1,4 +1,4 @@
--- How the tables of cases are written: where a call starts, and a row: what the rules give beside what document 01 says.
+-- How the tables of cases are written: where a call starts, and a row: what the rules give beside what the papers say.
 use Prim.Native.Nat.{ℕ, _+_, _^_}
 use mathlib.Core.Path.{_≡_}
 use mathlib.Core.List.{List, [], _∷_, _++_, map}
@@ -18,6 +18,7 @@ use Rattle.rules.specs.Calls.{Called, plainWords, guardedWords}
 pub record PresentCell : Type 0 where
   pub address : ℕ
   pub number : ℕ
+  pub moment : ℕ
   pub mark : ℕ
 
 -- how many cells, tape values and output values more fit
@@ -50,12 +51,23 @@ withR r n s = from (set s.registers r n) s.marks s.cells s.tape s.clk s.psp s.fr
 abbrev pub withMarkedR : ℕ → ℕ → Start → Start
 withMarkedR r n s = from (set s.registers r n) (s.marks + 2 ^ r) s.cells s.tape s.clk s.psp s.free
 
--- one more present cell, before those of s: its address and number; unmarked or marked
+-- one more present cell, before those of s
+abbrev pub withPresent : PresentCell → Start → Start
+withPresent k s = from s.registers s.marks (k ∷ s.cells) s.tape s.clk s.psp s.free
+
+-- its address, number and moment; unmarked or marked
+abbrev pub withHeld : ℕ → ℕ → ℕ → Start → Start
+withHeld a n m s = withPresent (record { address = a; number = n; moment = m; mark = 0 }) s
+
+abbrev pub withMarkedHeld : ℕ → ℕ → ℕ → Start → Start
+withMarkedHeld a n m s = withPresent (record { address = a; number = n; moment = m; mark = 1 }) s
+
+-- the same at moment 0
 abbrev pub withCell : ℕ → ℕ → Start → Start
-withCell a n s = from s.registers s.marks (record { address = a; number = n; mark = 0 } ∷ s.cells) s.tape s.clk s.psp s.free
+withCell a n s = withHeld a n 0 s
 
 abbrev pub withMarkedCell : ℕ → ℕ → Start → Start
-withMarkedCell a n s = from s.registers s.marks (record { address = a; number = n; mark = 1 } ∷ s.cells) s.tape s.clk s.psp s.free
+withMarkedCell a n s = withMarkedHeld a n 0 s
 
 abbrev pub withTape : List ℕ → Start → Start
 withTape vs s = from s.registers s.marks s.cells vs s.clk s.psp s.free
@@ -95,6 +107,7 @@ guardedStartSnapshot s =
         };
         addresses = map (λ k. k .address) (s .cells) ++ replicate (s .free .cells) 0;
         numbers = map (λ k. k .number) (s .cells) ++ replicate (s .free .cells) 0;
+        moments = map (λ k. k .moment) (s .cells) ++ replicate (s .free .cells) 0;
         tape = s .tape ++ replicate (s .free .tape) 0;
         output = replicate (s .free .output) 0;
       };
@@ -124,7 +137,7 @@ row c look answer steps about =
       paper = record { answer = answer; steps = steps; about = about };
     }
 
--- a table holds: in each row the rules give what document 01 says
+-- a table holds: in each row the rules give what the papers say
 abbrev pub Hold : List Row → Type 0
 Hold rows = map (λ r. r .rules) rows ≡ map (λ r. r .paper) rows
 
@@ -148,7 +161,8 @@ refusedBy n = refusal n []
 abbrev pub malformed : ℕ → Meaning
 malformed n = refusal 2 (n ∷ [])
 
--- What is looked at after a call: nothing; a register's number; a cell's number, where it is present; how many are; clk
+-- What is looked at after a call: nothing; a register's number; a cell's number, and its number and moment, where it is present; how many
+-- are; clk
 
 abbrev pub nothing : {S : Type 0} → S → List ℕ
 nothing s = []
@@ -156,12 +170,15 @@ nothing s = []
 abbrev pub registerAt : ℕ → Snapshot → List ℕ
 registerAt r s = getD (s .machine .registers) r 0 ∷ []
 
-abbrev contentNumber : Content ℕ → List ℕ
-contentNumber absent = []
-contentNumber (present n) = n ∷ []
+abbrev shown : {A : Type 0} → (A → List ℕ) → Content A → List ℕ
+shown f absent = []
+shown f (present v) = f v
 
 abbrev pub cellAt : ℕ → Snapshot → List ℕ
-cellAt a s = contentNumber (Cells.get (stateOf s .cells) a)
+cellAt a s = shown (λ h. h .number ∷ []) (Cells.get (stateOf s .cells) a)
+
+abbrev pub heldAt : ℕ → Snapshot → List ℕ
+heldAt a s = shown (λ h. h .number ∷ h .moment ∷ []) (Cells.get (stateOf s .cells) a)
 
 abbrev pub cellCount : Snapshot → List ℕ
 cellCount s = s .machine .«cell_count» ∷ []
@@ -174,7 +191,7 @@ abbrev pub markedRegisterAt : ℕ → GuardedSnapshot → List ℕ
 markedRegisterAt r g = registerAt r (g .plain) ++ (bit (registerMark (markedRegisters g) r) ∷ [])
 
 abbrev pub markedCellAt : ℕ → GuardedSnapshot → List ℕ
-markedCellAt a g = cellAt a (g .plain) ++ contentNumber (Cells.get (guardedStateOf g .marks .cells) a)
+markedCellAt a g = cellAt a (g .plain) ++ shown (λ t. t ∷ []) (Cells.get (guardedStateOf g .marks .cells) a)
 
 -- Two refusals that meet
 

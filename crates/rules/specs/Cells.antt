@@ -2,6 +2,7 @@
 use Prim.Native.Nat.{ℕ, zero, suc, _≤_}
 use mathlib.Core.List.{List, [], _∷_}
 use lib.Dec.{ltb, eqb}
+use Rattle.rules.specs.declared.Held.{Held}
 use Rattle.rules.specs.Numbers.{choose}
 use Rattle.rules.specs.Memory.{Content, absent, present, Memory}
 
@@ -30,7 +31,7 @@ module _ {A : Type 0} where
   contents none = []
   contents (cell a v c) = v ∷ contents c
 
-  -- the cells of two buffers
+  -- the cells of a list of addresses and one of contents
   abbrev pub zipped : List ℕ → List A → Cells A
   zipped [] vs = none
   zipped (a ∷ l) [] = none
@@ -47,9 +48,9 @@ module _ {A : Type 0} where
 abbrev pub cells : (A : Type 0) → Memory A
 cells A = record { Mem = Cells A; get = get; put = put; count = count }
 
--- the memory of numbers, and that of marks: 1 where the cell is marked, else 0
-abbrev pub numberCells : Memory ℕ
-numberCells = cells ℕ
+-- the memory of numbers, each with its moment, and that of marks: 1 where the cell is marked, else 0
+abbrev pub numberCells : Memory Held
+numberCells = cells Held
 
 abbrev pub markCells : Memory ℕ
 markCells = cells ℕ

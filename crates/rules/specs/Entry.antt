@@ -1,4 +1,5 @@
--- What a caller hands in, the tests of refusal 3, and the state that it stands for. Document 01, 'Forms' and the refusal table.
+-- What a caller hands in, the tests of refusal 3, and the state that it stands for. Document 01, 'Forms' and the refusal table; document 02,
+-- #103.
 use Prim.Native.Nat.{ℕ, zero, suc, _+_, _*_, _/_, _%_}
 use mathlib.Core.Bool.{Bool, true, not, _&&_, _||_}
 use mathlib.Core.List.{List, [], _∷_, map}
@@ -8,6 +9,7 @@ use Rattle.rules.specs.declared.Machine.{Machine}
 use Rattle.rules.specs.declared.Marks.{Marks}
 use Rattle.rules.specs.declared.Instruction.{Instruction}
 use Rattle.rules.specs.Numbers.{p, heapEnd, clockEnd, cellLimit, valueLimit, marksEnd, bit}
+use Rattle.rules.specs.Memory.{numbersOf, momentsOf, heldOf}
 use Rattle.rules.specs.Cells as Cells
 use Rattle.rules.specs.Cells.{numberCells, markCells, zipped}
 use Rattle.rules.specs.Step.{Environment, State, isStorable, overlay}
@@ -18,6 +20,7 @@ pub record Snapshot : Type 0 where
   pub machine : Machine
   pub addresses : List ℕ
   pub numbers : List ℕ
+  pub moments : List ℕ
   pub tape : List ℕ
   pub output : List ℕ
 
@@ -34,6 +37,9 @@ usedAddresses s = take (s .machine .«cell_count») (s .addresses)
 
 abbrev pub usedNumbers : Snapshot → List ℕ
 usedNumbers s = take (s .machine .«cell_count») (s .numbers)
+
+abbrev pub usedMoments : Snapshot → List ℕ
+usedMoments s = take (s .machine .«cell_count») (s .moments)
 
 abbrev pub usedTape : Snapshot → List ℕ
 usedTape s = take (s .machine .«tape_count») (s .tape)
@@ -91,11 +97,13 @@ plainEntry s =
     ∷ leb (m .«tape_count») (length (s .tape))
     ∷ leb (m .«output_count») (length (s .output))
     ∷ eqb (length (s .numbers)) (length (s .addresses))
+    ∷ eqb (length (s .moments)) (length (s .addresses))
     ∷ leb (length (s .addresses)) cellLimit
     ∷ leb (length (s .tape)) valueLimit
     ∷ leb (length (s .output)) valueLimit
     ∷ risingFrom 0 (usedAddresses s)
     ∷ every isStorable (usedNumbers s)
+    ∷ every (λ t. leb t (m .clk)) (usedMoments s)
     ∷ [])
 
 -- each marked number, of registers and of cells
@@ -138,7 +146,7 @@ stateOf s =
       registers = s .machine .registers;
       pc = s .machine .pc;
       clk = s .machine .clk;
-      cells = zipped (usedAddresses s) (usedNumbers s);
+      cells = zipped (usedAddresses s) (heldOf (usedNumbers s) (usedMoments s));
       tape = usedTape s;
       output = usedOutput s;
       written = usedOutput s;
@@ -167,7 +175,8 @@ snapshotAfter s t =
         «output_count» = length (t .output);
       };
       addresses = overlay (Cells.addresses (t .cells)) (s .addresses);
-      numbers = overlay (Cells.contents (t .cells)) (s .numbers);
+      numbers = overlay (numbersOf (Cells.contents (t .cells))) (s .numbers);
+      moments = overlay (momentsOf (Cells.contents (t .cells))) (s .moments);
       tape = overlay (t .tape) (s .tape);
       output = overlay (t .written) (s .output);
     }

@@ -2,7 +2,7 @@
 -- The theorems stand in proofs/Cases/AllCases.antt.
 use Prim.Native.Nat.{ℕ}
 use mathlib.Core.Path.{_≡_}
-use mathlib.Core.List.{List, [], _∷_, _++_}
+use mathlib.Core.List.{List, [], _∷_, _++_, map}
 use lib.ListN.{replicate}
 use Rattle.rules.specs.Numbers.{defaultPsp}
 use Rattle.rules.specs.Answers.{Meaning}
@@ -118,9 +118,9 @@ TextRefusalsHold =
 
 -- The state
 
--- the counts of cells, tape and output, clk, addresses, numbers, tape and output
-abbrev handedIn : ℕ → ℕ → ℕ → ℕ → List ℕ → List ℕ → List ℕ → List ℕ → Snapshot
-handedIn cells tape output clk ls ns ts os =
+-- the counts of cells, tape and output, clk, addresses, numbers, moments, tape and output
+abbrev handedIn : ℕ → ℕ → ℕ → ℕ → List ℕ → List ℕ → List ℕ → List ℕ → List ℕ → Snapshot
+handedIn cells tape output clk ls ns ms ts os =
     record {
       machine = record {
         registers = 0xFFFFFFFF00000001 ∷ 0xFFFFFFFF00000000 ∷ replicate 8 0;
@@ -134,6 +134,7 @@ handedIn cells tape output clk ls ns ts os =
       };
       addresses = ls;
       numbers = ns;
+      moments = ms;
       tape = ts;
       output = os;
     }
@@ -144,28 +145,34 @@ refusedState s = row (plainWords (0xb ∷ []) 1 s) nothing (refusedBy 3) 0 []
 abbrev passedState : Snapshot → Row
 passedState s = row (plainWords (0xb ∷ []) 1 s) nothing e0 1 []
 
--- two used cells, and no tape or output
+-- two used cells, and no tape or output; their moments are 0
 abbrev withCells : List ℕ → List ℕ → Snapshot
-withCells ls ns = handedIn 2 0 0 0 ls ns [] []
+withCells ls ns = handedIn 2 0 0 0 ls ns (map (λ n. 0) ns) [] []
+
+-- two used cells at clk 9, with these moments
+abbrev withMoments : List ℕ → Snapshot
+withMoments ms = handedIn 2 0 0 9 (5 ∷ 6 ∷ 0 ∷ []) (0 ∷ 0 ∷ 0 ∷ []) ms [] []
 
 abbrev lent : ℕ → ℕ → ℕ → Snapshot
-lent c t o = handedIn 0 0 0 0 (replicate c 0) (replicate c 0) (replicate t 0) (replicate o 0)
+lent c t o = handedIn 0 0 0 0 (replicate c 0) (replicate c 0) (replicate c 0) (replicate t 0) (replicate o 0)
 
 unfoldable pub stateRefusals : List Row
 stateRefusals =
     -- clk at least 10^12
-    refusedState (handedIn 0 0 0 1000000000000 [] [] [] [])
-    ∷ passedState (handedIn 0 0 0 999999999999 [] [] [] [])
+    refusedState (handedIn 0 0 0 1000000000000 [] [] [] [] [])
+    ∷ passedState (handedIn 0 0 0 999999999999 [] [] [] [] [])
     -- a count above its capacity: cells, tape, output
     ∷ refusedState (withCells (5 ∷ []) (5 ∷ []))
     ∷ passedState (withCells (5 ∷ 6 ∷ []) (5 ∷ 6 ∷ []))
-    ∷ refusedState (handedIn 0 2 0 0 [] [] (5 ∷ []) [])
-    ∷ passedState (handedIn 0 1 0 0 [] [] (5 ∷ []) [])
-    ∷ refusedState (handedIn 0 0 2 0 [] [] [] (5 ∷ []))
-    ∷ passedState (handedIn 0 0 1 0 [] [] [] (5 ∷ []))
+    ∷ refusedState (handedIn 0 2 0 0 [] [] [] (5 ∷ []) [])
+    ∷ passedState (handedIn 0 1 0 0 [] [] [] (5 ∷ []) [])
+    ∷ refusedState (handedIn 0 0 2 0 [] [] [] [] (5 ∷ []))
+    ∷ passedState (handedIn 0 0 1 0 [] [] [] [] (5 ∷ []))
     -- cell slices of unequal length, or above 2,048; tape and output lent above 4,096
-    ∷ refusedState (handedIn 0 0 0 0 (5 ∷ []) [] [] [])
-    ∷ refusedState (handedIn 0 0 0 0 [] (5 ∷ []) [] [])
+    ∷ refusedState (handedIn 0 0 0 0 (5 ∷ []) [] (0 ∷ []) [] [])
+    ∷ refusedState (handedIn 0 0 0 0 [] (5 ∷ []) [] [] [])
+    ∷ refusedState (handedIn 0 0 0 0 (5 ∷ []) (5 ∷ []) [] [] [])
+    ∷ refusedState (handedIn 0 0 0 0 [] [] (5 ∷ []) [] [])
     ∷ refusedState (lent 2049 0 0)
     ∷ refusedState (lent 0 4097 0)
     ∷ refusedState (lent 0 0 4097)
@@ -179,6 +186,10 @@ stateRefusals =
     -- a cell above p; an unused one may be anything
     ∷ refusedState (withCells (5 ∷ 6 ∷ []) (0 ∷ 0xFFFFFFFF00000002 ∷ []))
     ∷ passedState (withCells (5 ∷ 6 ∷ 0 ∷ []) (0 ∷ 0xFFFFFFFF00000001 ∷ 0xFFFFFFFF00000002 ∷ []))
+    -- a moment above clk, which is 9; an unused one may be anything (document 02, #103)
+    ∷ refusedState (withMoments (10 ∷ 0 ∷ 0 ∷ []))
+    ∷ refusedState (withMoments (0 ∷ 10 ∷ 0 ∷ []))
+    ∷ passedState (withMoments (9 ∷ 9 ∷ 10 ∷ []))
     ∷ []
 
 -- two cells, the second p, and one unused, with these marks; R0 is p, R1 is p - 1, with this word of marks
@@ -191,6 +202,11 @@ markedRow ts r answer steps =
     answer
     steps
     []
+
+-- the moments' tests are those of a plain call
+abbrev guardedRow : Snapshot → Meaning → ℕ → Row
+guardedRow s answer steps =
+    row (guardedWords (0xb ∷ []) 1 (record { plain = s; marks = 1 ∷ 1 ∷ 0 ∷ []; extras = record { registers = 0 } })) nothing answer steps []
 
 unfoldable pub markRefusals : List Row
 markRefusals =
@@ -207,6 +223,9 @@ markRefusals =
     -- cell slices of unequal length
     ∷ markedRow (0 ∷ 0 ∷ []) 0 (refusedBy 3) 0
     ∷ markedRow (0 ∷ 0 ∷ 0 ∷ 0 ∷ []) 0 (refusedBy 3) 0
+    -- a moment above clk, of a marked cell (document 02, #103)
+    ∷ guardedRow (withMoments (9 ∷ 10 ∷ 0 ∷ [])) (refusedBy 3) 0
+    ∷ guardedRow (withMoments (9 ∷ 9 ∷ 10 ∷ [])) e0 1
     ∷ []
 
 abbrev pub StateRefusalsHold : Type 0

@@ -84,6 +84,7 @@ pub record PlainKept (s t : Snapshot) : Type 0 where
   pub storage : t .machine .«storage_addr» ≡ s .machine .«storage_addr»
   pub addresses : length (t .addresses) ≡ length (s .addresses)
   pub numbers : length (t .numbers) ≡ length (s .numbers)
+  pub moments : length (t .moments) ≡ length (s .moments)
   pub tape : length (t .tape) ≡ length (s .tape)
   pub output : length (t .output) ≡ length (s .output)
 

@@ -18,7 +18,7 @@ pub mod Calls
 pub mod Handed
 pub mod Solve
 -- statements about them: what every call promises (demand 1), the frame of refusal 2, kilosteps, marks and sinks, blanking with zero,
--- demand 3, the plain map (demand 2), soundness, runs in parts, TLOAD's test of its count, how much `solve` prints
+-- demand 3, the plain map (demand 2), soundness, runs in parts, moments, TLOAD's test of its count, how much `solve` prints
 pub mod EveryCall
 pub mod MalformedFrames
 pub mod NearestThousand
@@ -35,6 +35,7 @@ pub mod MapCalls
 pub mod Soundness
 pub mod Resumption
 pub mod SplitCalls
+pub mod Moments
 pub mod WrapTest
 pub mod SolveFits
 -- tables of cases, and what is said with their rows: the limit of a text, witnesses of demand 3

@@ -1,7 +1,8 @@
 -- The rules over the rising list of cells and over a plain map: from every rising start they give the same answer and steps, the same
--- registers, pc, clk, tape and output, the same content at every address and as many present addresses.
+-- registers, pc, clk, tape and output, the same number and moment at every address and as many present addresses.
 use Prim.Native.Nat.{ℕ}
 use mathlib.Core.Path.{_≡_}
+use Rattle.rules.specs.declared.Held.{Held}
 use Rattle.rules.specs.Cells.{Cells, get, count, Rising, numberCells, markCells}
 use Rattle.rules.specs.PlainMap.{PlainMap, numberMap, markMap}
 use Rattle.rules.specs.Step as Plain
@@ -12,11 +13,11 @@ use Rattle.rules.specs.Relations.{Both, BothGuarded, BothRan}
 
 -- The plain map of a list of cells, and the states over it
 
-abbrev pub mapOf : Cells ℕ → PlainMap ℕ
+abbrev pub mapOf : {A : Type 0} → Cells A → PlainMap A
 mapOf c = record { at = get c; size = count c }
 
 -- a state with a plain map for its cells
-abbrev pub withMap : State numberCells → PlainMap ℕ → State numberMap
+abbrev pub withMap : State numberCells → PlainMap Held → State numberMap
 withMap s m =
     record {
       registers = s .registers;
@@ -39,7 +40,7 @@ mapGuardedState q = record { plain = mapState (q .plain); marks = mapMarks (q .m
 
 -- Agreement
 
-pub record SameMemory (c : Cells ℕ) (m : PlainMap ℕ) : Type 0 where
+pub record SameMemory {A : Type 0} (c : Cells A) (m : PlainMap A) : Type 0 where
   pub rising : Rising c
   pub same : (a : ℕ) → get c a ≡ m .at a
   pub size : count c ≡ m .size

@@ -1,5 +1,5 @@
--- Demand 2, as one statement about whole calls: each is refused at entry, or is the run over a plain map from address to number. The
--- buffers of cells then hold what that map holds, in rising order.
+-- Demand 2, as one statement about whole calls: each is refused at entry, or is the run over a plain map from address to number and moment.
+-- The buffers of cells then hold what that map holds, in rising order.
 use Prim.Native.Nat.{ℕ}
 use mathlib.Core.Path.{_≡_}
 use mathlib.Core.Bool.{true, false}

@@ -12,7 +12,7 @@ use Rattle.rules.specs.Results.{Result, pass}
 use Rattle.rules.specs.Cells.{numberCells}
 use Rattle.rules.specs.Step.{State}
 use Rattle.rules.specs.Answers.{refusal}
-use Rattle.rules.specs.Entry.{Snapshot, GuardedSnapshot, usedAddresses, usedNumbers, usedTape, usedOutput, usedMarks, markedRegisters, markedCells, marksEntry, guardedEntry, environment, stateOf}
+use Rattle.rules.specs.Entry.{Snapshot, GuardedSnapshot, usedAddresses, usedNumbers, usedMoments, usedTape, usedOutput, usedMarks, markedRegisters, markedCells, marksEntry, guardedEntry, environment, stateOf}
 use Rattle.rules.specs.Calls.{Called, refusedCall, pausedAfter}
 use Rattle.rules.specs.MarkRules.{Marking, snapshotMarks}
 use Rattle.rules.specs.SinkRules.{ReachesSink, Comes}
@@ -51,11 +51,14 @@ pub record Agree (R : Bool → ℕ → ℕ → Type 0) (g h : GuardedSnapshot) :
   pub outputCount : g .plain .machine .«output_count» ≡ h .plain .machine .«output_count»
   pub addressLength : length (g .plain .addresses) ≡ length (h .plain .addresses)
   pub numberLength : length (g .plain .numbers) ≡ length (h .plain .numbers)
+  pub momentLength : length (g .plain .moments) ≡ length (h .plain .moments)
   pub markLength : length (g .marks) ≡ length (h .marks)
   pub tapeLength : length (g .plain .tape) ≡ length (h .plain .tape)
   pub outputLength : length (g .plain .output) ≡ length (h .plain .output)
   -- each buffer as far as its count and its length go; nothing is said of what lies beyond
   pub addresses : usedAddresses (g .plain) ≡ usedAddresses (h .plain)
+  -- the moments of marked cells too (#103)
+  pub moments : usedMoments (g .plain) ≡ usedMoments (h .plain)
   pub marks : usedMarks g ≡ usedMarks h
   pub tape : usedTape (g .plain) ≡ usedTape (h .plain)
   pub output : usedOutput (g .plain) ≡ usedOutput (h .plain)

@@ -2,6 +2,7 @@
 use Prim.Native.Nat.{ℕ, suc}
 use mathlib.Core.Bool.{Bool, true, false}
 use lib.Dec.{eqb}
+use Rattle.rules.specs.declared.Held.{Held}
 use Rattle.rules.specs.Numbers.{choose}
 use Rattle.rules.specs.Memory.{Content, absent, present, Memory}
 
@@ -24,9 +25,9 @@ mapPut m a v =
 abbrev pub plainMap : (A : Type 0) → Memory A
 plainMap A = record { Mem = PlainMap A; get = λ m a. m .at a; put = mapPut; count = λ m. m .size }
 
--- the map of numbers, and that of marks
-abbrev pub numberMap : Memory ℕ
-numberMap = plainMap ℕ
+-- the map of numbers, each with its moment, and that of marks
+abbrev pub numberMap : Memory Held
+numberMap = plainMap Held
 
 abbrev pub markMap : Memory ℕ
 markMap = plainMap ℕ

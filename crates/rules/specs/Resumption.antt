@@ -32,6 +32,7 @@ guardedResumed q = record { plain = resumed (q .plain); marks = q .marks }
 pub record Resumable (program : List Instruction) (s : Snapshot) (t : State numberCells) : Type 0 where
   pub addresses : length (snapshotAfter s t .addresses) ≡ length (s .addresses)
   pub numbers : length (snapshotAfter s t .numbers) ≡ length (s .numbers)
+  pub moments : length (snapshotAfter s t .moments) ≡ length (s .moments)
   pub tape : length (snapshotAfter s t .tape) ≡ length (s .tape)
   pub output : length (snapshotAfter s t .output) ≡ length (s .output)
   pub environment : Entry.environment program (snapshotAfter s t) ≡ Entry.environment program s

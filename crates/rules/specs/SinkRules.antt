@@ -6,6 +6,7 @@ use mathlib.Core.List.{List}
 use Rattle.rules.specs.declared.OlaOpcode.{OlaOpcode}
 use Rattle.rules.specs.declared.OlaOpcode.the-variants as O
 use Rattle.rules.specs.declared.Instruction.{Instruction}
+use Rattle.rules.specs.declared.Held.{Held}
 use Rattle.rules.specs.Numbers.{clockEnd}
 use Rattle.rules.specs.Results.{pass}
 use Rattle.rules.specs.Cells.{numberCells}
@@ -65,11 +66,11 @@ module _ (t : Marking) (i : Instruction) where
   -- those that come later: CJMP's op1 after the test and its evaluation; cells and RET's pc after all reads are found
   pub data ReadSink (e : Environment) (s : State numberCells) (o : Operands) : OlaOpcode → Type 0 where
     cjmp-op1 : {v : ℕ} → o .op0 ≤ 1 → valueOf (e .psp) (s .registers) (i .op1) ≡ pass v → Op1 → ReadSink e s o O.Cjmp
-    tstore-cell : {vs : List ℕ} → readSpan numberCells (s .cells) (o .op0) (o .op1) ≡ pass vs
+    tstore-cell : {hs : List Held} → readSpan numberCells (s .cells) (o .op0) (o .op1) ≡ pass hs
         → (a : ℕ) → o .op0 ≤ a → a < o .op0 + o .op1 → t (cell a) ≡ true → ReadSink e s o O.Tstore
-    sccall-cell : {vs : List ℕ} → readSpan numberCells (s .cells) (o .op0) 4 ≡ pass vs
+    sccall-cell : {hs : List Held} → readSpan numberCells (s .cells) (o .op0) 4 ≡ pass hs
         → (a : ℕ) → o .op0 ≤ a → a < o .op0 + 4 → t (cell a) ≡ true → ReadSink e s o O.Sccall
-    ret-pc : {v w : ℕ} → readBelow numberCells (s .cells) (r9 numberCells s) 1 ≡ pass v → readBelow numberCells (s .cells) (r9 numberCells s) 2 ≡ pass w
+    ret-pc : {h k : Held} → readBelow numberCells (s .cells) (r9 numberCells s) 1 ≡ pass h → readBelow numberCells (s .cells) (r9 numberCells s) 2 ≡ pass k
         → t (cell (r9 numberCells s - 1)) ≡ true → ReadSink e s o O.Ret
 
 -- the step of an instruction, as fetched and with its operands as read

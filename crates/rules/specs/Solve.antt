@@ -81,6 +81,7 @@ solveStart =
       };
       addresses = replicate cellLimit 0;
       numbers = replicate cellLimit 0;
+      moments = replicate cellLimit 0;
       tape = replicate valueLimit 0;
       output = replicate valueLimit 0;
     }

@@ -5,6 +5,7 @@ use mathlib.Core.Bool.{true}
 use mathlib.Core.List.{List}
 use lib.ListN.{length, getD, take}
 use Rattle.rules.specs.declared.Instruction.{Instruction}
+use Rattle.rules.specs.declared.Held.{Held}
 use Rattle.rules.specs.Numbers.{p, heapEnd}
 use Rattle.rules.specs.Results.{pass, passes}
 use Rattle.rules.specs.Memory.{present}
@@ -16,15 +17,16 @@ use Rattle.rules.specs.Guarded as Guarded
 use Rattle.rules.specs.Guarded.{registerMark, cellMark, GuardedState, GuardedNext}
 use Rattle.rules.specs.Entry.{Snapshot, GuardedSnapshot, plainEntry, guardedEntry, environment, stateOf, guardedStateOf}
 
--- addresses rise; each present cell lies in the stack or the heap and holds a number that a cell can hold
-pub record SoundCells (c : Cells ℕ) : Type 0 where
+-- addresses rise; each present cell lies in the stack or the heap and holds a number that a cell can hold, and a moment at most clk
+pub record SoundCells (clk : ℕ) (c : Cells Held) : Type 0 where
   pub rising : Rising c
-  pub inHeap : (a v : ℕ) → get c a ≡ present v → a < heapEnd
-  pub storable : (a v : ℕ) → get c a ≡ present v → v ≤ p
+  pub inHeap : (a : ℕ) (h : Held) → get c a ≡ present h → a < heapEnd
+  pub storable : (a : ℕ) (h : Held) → get c a ≡ present h → h .number ≤ p
+  pub notLater : (a : ℕ) (h : Held) → get c a ≡ present h → h .moment ≤ clk
 
 pub record Sound (e : Environment) (s : State numberCells) : Type 0 where
   pub ten : length (s .registers) ≡ 10
-  pub cells : SoundCells (s .cells)
+  pub cells : SoundCells (s .clk) (s .cells)
   -- everything fits its buffer
   pub cellsFit : count (s .cells) ≤ e .cellCapacity
   pub tapeFits : length (s .tape) ≤ e .tapeCapacity
@@ -41,7 +43,7 @@ pub record GuardedSound (e : Environment) (q : GuardedState numberCells markCell
   pub zeroOrOne : (a t : ℕ) → get (q .marks .cells) a ≡ present t → t ≤ 1
   -- each marked number is below p
   pub registersBelow : (r : ℕ) → registerMark (q .marks .registers) r ≡ true → getD (q .plain .registers) r 0 < p
-  pub cellsBelow : (a v : ℕ) → cellMark markCells (q .marks .cells) a ≡ true → get (q .plain .cells) a ≡ present v → v < p
+  pub cellsBelow : (a : ℕ) (h : Held) → cellMark markCells (q .marks .cells) a ≡ true → get (q .plain .cells) a ≡ present h → h .number < p
 
 -- The theorems: a step from a sound state leaves a sound one, and so does every run, refused or not
 

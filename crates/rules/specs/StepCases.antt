@@ -1,5 +1,6 @@
--- What each opcode gives, how far it moves pc, what it marks, what it blanks, and what `solve` prints of refusals. Document 01, 'The step',
--- the end of 'Frames', 'Marks' and the end of 'Cases'; document 02, #108. The theorems stand in proofs/Cases/AllCases.antt.
+-- What each opcode gives, how far it moves pc, when the cells got their numbers, what it marks, what it blanks, and what `solve` prints of
+-- refusals. Document 01, 'The step', the end of 'Frames', 'Marks' and the end of 'Cases'; document 02, #103 and #108. The theorems stand in
+-- proofs/Cases/AllCases.antt.
 use Prim.Native.Nat.{ℕ}
 use mathlib.Core.Path.{_≡_}
 use mathlib.Core.List.{List, [], _∷_, _++_}
@@ -8,7 +9,7 @@ use Rattle.rules.specs.declared.OlaOpcode.the-variants as O
 use Rattle.rules.specs.declared.OlaOperand.{OlaOperand}
 use Rattle.rules.specs.declared.OlaOperand.the-variants.{Absent, Register, RegisterWithOffset, RegisterWithFactor, Psp, Pc}
 use Rattle.rules.specs.Answers.{outcome}
-use Rattle.rules.specs.Entry.{Snapshot, GuardedSnapshot, usedTape, usedOutput}
+use Rattle.rules.specs.Entry.{Snapshot, GuardedSnapshot, usedMoments, usedTape, usedOutput}
 use Rattle.rules.specs.Calls.{plainBudgetText}
 use Rattle.rules.specs.Solve.{solve, printed}
 use Rattle.rules.specs.Encoding.{frame, imm, bytes}
@@ -18,10 +19,13 @@ use Rattle.rules.specs.CaseRows.{
   withR,
   withMarkedR,
   withCell,
+  withHeld,
   withMarkedCell,
+  withMarkedHeld,
   withTape,
   withClk,
   withPsp,
+  full,
   fourCells,
   startSnapshot,
   Row,
@@ -34,6 +38,7 @@ use Rattle.rules.specs.CaseRows.{
   refusedBy,
   registerAt,
   cellAt,
+  heldAt,
   clkOf,
   markedRegisterAt,
   markedCellAt,
@@ -111,6 +116,59 @@ lengths =
 
 abbrev pub ResultsHold : Type 0
 ResultsHold = Hold results × Hold lengths
+
+-- Moments (#103)
+
+-- cells 2, 4 and 6 hold 5, 7 and 8, since the moments 1, 2 and 3; R0 is 7, and clk is 9
+abbrev threeCells : Start
+threeCells = withClk 9 (withHeld 2 5 1 (withHeld 4 7 2 (withHeld 6 8 3 start)))
+
+-- one step, and the moments of all cells after it
+abbrev momentsAre : List ℕ → Start → List ℕ → Row
+momentsAre words s about = gives words s usedMoments about
+
+-- R0 to a cell
+abbrev stores : ℕ → List ℕ
+stores a = frame O.Mstore (imm a) (imm 0) r0
+
+-- the same of a guarded step
+abbrev guardedMomentsAre : List ℕ → Start → List ℕ → Row
+guardedMomentsAre words s about = row (guarded 1 words s) (λ g. usedMoments (g .plain)) e3 1 about
+
+unfoldable pub moments : List Row
+moments =
+    -- a new cell: before all, between two, behind all
+    momentsAre (stores 1) threeCells (9 ∷ 1 ∷ 2 ∷ 3 ∷ [])
+    ∷ momentsAre (stores 5) threeCells (1 ∷ 2 ∷ 9 ∷ 3 ∷ [])
+    ∷ momentsAre (stores 7) threeCells (1 ∷ 2 ∷ 3 ∷ 9 ∷ [])
+    -- another number in its place, and the same
+    ∷ gives (stores 2) threeCells (heldAt 2) (7 ∷ 9 ∷ [])
+    ∷ gives (stores 4) threeCells (heldAt 4) (7 ∷ 9 ∷ [])
+    ∷ momentsAre (stores 4) threeCells (1 ∷ 9 ∷ 3 ∷ [])
+    -- CALL: a new cell, a present one
+    ∷ momentsAre (frame O.Call Absent (imm 0) Absent) (withR 9 1 threeCells) (9 ∷ 1 ∷ 2 ∷ 3 ∷ [])
+    ∷ gives (frame O.Call Absent (imm 0) Absent) (withR 9 7 threeCells) (heldAt 6) (2 ∷ 9 ∷ [])
+    -- TLOAD: three cells, one of them present, at one moment; a present one; none
+    ∷ momentsAre (frame O.Tload (imm 1) (imm 3) (imm 3)) (withTape (1 ∷ 2 ∷ 3 ∷ []) threeCells) (1 ∷ 9 ∷ 9 ∷ 9 ∷ 3 ∷ [])
+    ∷ momentsAre (frame O.Tload (imm 0) (imm 0) (imm 6)) (withTape (8 ∷ []) threeCells) (1 ∷ 2 ∷ 9 ∷ [])
+    ∷ momentsAre (frame O.Tload (imm 1) (imm 0) (imm 2)) (withTape (8 ∷ []) threeCells) (1 ∷ 2 ∷ 3 ∷ [])
+    -- what is read keeps its moment: MLOAD, RET, TSTORE, SCCALL
+    ∷ momentsAre (frame O.Mload (imm 4) (imm 0) r0) threeCells (1 ∷ 2 ∷ 3 ∷ [])
+    ∷ momentsAre (frame O.Ret Absent Absent Absent) (withR 9 6 (withClk 9 (withHeld 4 7 2 (withHeld 5 8 3 start)))) (2 ∷ 3 ∷ [])
+    ∷ momentsAre (frame O.Tstore (imm 4) (imm 1) Absent) threeCells (1 ∷ 2 ∷ 3 ∷ [])
+    ∷ row (plain 1 (frame O.Sccall (imm 0) r1 Absent) (withClk 9 (fourCells start))) usedMoments (outcome 1 (5 ∷ 6 ∷ 7 ∷ 8 ∷ [])) 1 (0 ∷ 0 ∷ 0 ∷ 0 ∷ [])
+    -- two stores to one cell, at 9 and at 10; a store that is refused
+    ∷ row (plain 2 (stores 2 ++ stores 2) threeCells) usedMoments e3 2 (10 ∷ 2 ∷ 3 ∷ [])
+    ∷ row (plain 1 (stores 5) (full threeCells)) usedMoments (refusedBy 16) 0 (1 ∷ 2 ∷ 3 ∷ [])
+    -- guarded: a marked number over a marked cell, and the same number and mark again
+    ∷ guardedMomentsAre (frame O.Mstore (imm 4) (imm 0) r1) (withMarkedR 1 6 (withClk 9 (withMarkedHeld 4 7 2 start))) (9 ∷ [])
+    ∷ guardedMomentsAre (frame O.Mstore (imm 4) (imm 0) r1) (withMarkedR 1 6 (withClk 9 (withMarkedHeld 4 6 2 start))) (9 ∷ [])
+    -- the step of 17 stands, with its moment
+    ∷ row (plain 1 (stores 2) (withClk 999999999999 threeCells)) usedMoments (refusedBy 17) 1 (999999999999 ∷ 2 ∷ 3 ∷ [])
+    ∷ []
+
+abbrev pub MomentsHold : Type 0
+MomentsHold = Hold moments
 
 -- Marks
 

@@ -13,7 +13,7 @@ use Rattle.rules.specs.Answers.{Meaning, outcome, refusal}
 use Rattle.rules.specs.Entry.{GuardedSnapshot}
 use Rattle.rules.specs.Calls.{Called, guardedWords, guardedText, guardedBudgetText}
 use Rattle.rules.specs.Encoding.{frame, bytes}
-use Rattle.rules.specs.CaseRows.{start, withR, withMarkedR, withCell, withMarkedCell, guardedStartSnapshot, markedRegisterAt, markedCellAt}
+use Rattle.rules.specs.CaseRows.{start, withR, withMarkedR, withCell, withMarkedCell, withMarkedHeld, withClk, guardedStartSnapshot, heldAt, markedRegisterAt, markedCellAt}
 use Rattle.rules.specs.NonInterference.{MarkedBelow, Alike, SameCalls}
 
 -- two starts of one call that differ and are alike, each marked number below p; the answers and steps of the calls, which are the same
@@ -119,6 +119,7 @@ beyond n =
         };
         addresses = n ∷ n ∷ [];
         numbers = n ∷ n ∷ [];
+        moments = n ∷ n ∷ [];
         tape = n ∷ [];
         output = n ∷ [];
       };
@@ -134,6 +135,7 @@ pub record Beyond : Type 0 where
   pub pauses : Witness (guardedWords stores 1) (beyond 3) (beyond 4) (outcome 3 []) 1
   -- what stood beyond the counts still stands there
   pub addresses : guardedWords stores 1 (beyond 3) .left .plain .addresses ≡ 6 ∷ 3 ∷ []
+  pub moments : guardedWords stores 1 (beyond 3) .left .plain .moments ≡ 0 ∷ 3 ∷ []
   pub marks : guardedWords stores 1 (beyond 3) .left .marks ≡ 1 ∷ 3 ∷ []
 
 -- Blanking with zero (document 02, #108)
@@ -188,10 +190,27 @@ pub record BlankingWitnesses : Type 0 where
   -- a factor operand with factor 0 is no sink
   pub factorZero : FromZeroAndSeven usesFactorZero (outcome 0 []) 3 (markedRegisterAt 2) (4 ∷ 0 ∷ []) (4 ∷ 0 ∷ [])
 
--- a mark that is carried on, one that would show, what stands beyond the counts, and blanking with zero
+-- Moments (document 02, #103)
+
+-- cell 3 is marked, holds n and has the moment m; clk is 9
+unfoldable pub secretSince : ℕ → ℕ → GuardedSnapshot
+secretSince m n = guardedStartSnapshot (withClk 9 (withMarkedHeld 3 n m start))
+
+-- number and moment of cell 3, and those of cell 6
+abbrev pub bothHeld : GuardedSnapshot → List ℕ
+bothHeld g = heldAt 3 (g .plain) ++ heldAt 6 (g .plain)
+
+pub record MomentWitnesses : Type 0 where
+  -- the mark goes from cell 3 to cell 6, which `passesOn` stores at clk 11; the moments are the same beside other numbers
+  pub carried : Carried (guardedWords passesOn 10) (secretSince 5 7) (secretSince 5 8) (outcome 0 []) 4 bothHeld (7 ∷ 5 ∷ 8 ∷ 11 ∷ []) (8 ∷ 5 ∷ 9 ∷ 11 ∷ [])
+  -- a marked cell with another moment is not alike, though its number is the same
+  pub apart : Alike (secretSince 5 7) (secretSince 4 7) → ⊥
+
+-- a mark that is carried on, one that would show, what stands beyond the counts, blanking with zero, and moments
 pub record Witnesses : Type 0 where
   pub carried : MarksCarried
   pub cellsCarried : CellsCarried
   pub leaked : Witness (guardedWords leaks 2) (secret 7) (secret 8) (refusal 18 []) 1
   pub beyond : Beyond
   pub blanking : BlankingWitnesses
+  pub moments : MomentWitnesses

@@ -5,6 +5,7 @@ use mathlib.Core.Bool.{true}
 use mathlib.Core.List.{List}
 use lib.ListN.{length, replicate}
 use Rattle.rules.specs.declared.Instruction.{Instruction}
+use Rattle.rules.specs.declared.Held.{Held}
 use Rattle.rules.specs.declared.Refusal.the-variants.{TapeFault, StoreFault, ProphetStore}
 use Rattle.rules.specs.Numbers.{p}
 use Rattle.rules.specs.Results.{Result, refuse, pass, require, bind}
@@ -16,12 +17,12 @@ use Rattle.rules.specs.Step.{Environment, State, Next, nextPc, onTape, t
 use Rattle.rules.specs.Entry.{Snapshot, GuardedSnapshot, plainEntry, guardedEntry, environment}
 use Rattle.rules.specs.Calls.{plainRunOf, guardedRunOf}
 
-module _ (numberMemory : Memory ℕ) where
+module _ (numberMemory : Memory Held) where
   -- TLOAD as `operate` has it, without the test `wraps`
   abbrev pub untested : Instruction → State numberMemory → Operands → Result (Next numberMemory)
   untested i s o =
       require (onTape (o .op0) (o .op1) (s .tape)) TapeFault
-      (bind (storeMany numberMemory (s .cells) (o .dst) (tapeValues (o .op0) (o .op1) (s .tape))) λ c.
+      (bind (storeMany numberMemory (s .clk) (s .cells) (o .dst) (tapeValues (o .op0) (o .op1) (s .tape))) λ c.
       pass (writesCells numberMemory s (nextPc numberMemory s i) c))
 
   -- in a state every TLOAD gives the same without the test
@@ -35,9 +36,9 @@ lastBelow n = record { op0 = 1; op1 = n; dst = p - 1 }
 -- at no TLOAD of a call does it decide anything
 pub record WrapTest : Type 1 where
   -- with a tape of at most 2^32 - 1 values, over any memory
-  pub shortTape : (numberMemory : Memory ℕ) (e : Environment) (s : State numberMemory) → length (s .tape) ≤ 0xFFFFFFFF → DecidesNothing numberMemory e s
+  pub shortTape : (numberMemory : Memory Held) (e : Environment) (s : State numberMemory) → length (s .tape) ≤ 0xFFFFFFFF → DecidesNothing numberMemory e s
   -- with one value more it can decide: 14, and 15 without it
-  pub longerTape : (numberMemory : Memory ℕ) (e : Environment) (s : State numberMemory) → s .tape ≡ replicate 0x100000000 0 → (i : Instruction)
+  pub longerTape : (numberMemory : Memory Held) (e : Environment) (s : State numberMemory) → s .tape ≡ replicate 0x100000000 0 → (i : Instruction)
       → (operate numberMemory e tapeLoad i s (lastBelow 0x100000000) ≡ refuse StoreFault) × (untested numberMemory i s (lastBelow 0x100000000) ≡ refuse ProphetStore)
   -- so in every state that a call comes to, whose tape has at most 4,096 values, it decides nothing
   pub plainCalls : (program : List Instruction) (s : Snapshot) → length (s .machine .registers) ≡ 10 → plainEntry s ≡ true

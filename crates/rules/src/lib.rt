@@ -94,6 +94,13 @@ pub enum Answer {
     ShortBuffer,
 }
 
+// What a present cell holds: its number, and its moment, which is the clk before the step that last wrote it; a cell that is handed in
+// brings its own.
+pub struct Held {
+    pub number: u64,
+    pub moment: u64,
+}
+
 // The state that is no buffer, and how much of each buffer is used.
 pub struct Machine {
     pub registers: [u64; 10],

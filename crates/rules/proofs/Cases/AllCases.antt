@@ -11,6 +11,8 @@ use Rattle.rules.specs.StepCases.{
   results,
   lengths,
   ResultsHold,
+  moments,
+  MomentsHold,
   markResults,
   lastMarks,
   MarkResultsHold,
@@ -130,6 +132,11 @@ outcomesHold = refl
 pub resultsHold : ResultsHold
 unfolding calling results lengths
 resultsHold = (refl, refl)
+
+-- when the cells got their numbers
+pub momentsHold : MomentsHold
+unfolding calling moments
+momentsHold = refl
 
 pub markResultsHold : MarkResultsHold
 unfolding calling markResults lastMarks

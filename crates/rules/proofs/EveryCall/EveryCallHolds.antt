@@ -65,7 +65,7 @@ module _ {S : Type 0} (plain : S → Snapshot) (Kept : S → S → Type 0) (kept
       (entry-refused (refusal-answers highest l f) a)
 
 plain-kept : (s : Snapshot) → PlainKept s s
-plain-kept s = record { psp = refl; storage = refl; addresses = refl; numbers = refl; tape = refl; output = refl }
+plain-kept s = record { psp = refl; storage = refl; addresses = refl; numbers = refl; moments = refl; tape = refl; output = refl }
 
 guarded-kept : (g : GuardedSnapshot) → GuardedKept g g
 guarded-kept g = record { plain = plain-kept (g .plain); marks = refl }

@@ -234,7 +234,7 @@ module _ (program : List Instruction) (g : GuardedSnapshot) (ten : length (g .pl
       let h = guarded-resumable program g (guardedRunOf program n g .state) enters (sound-end n) in
       let k = h .plain in
       record {
-        plain = record { psp = refl; storage = refl; addresses = k .addresses; numbers = k .numbers; tape = k .tape; output = k .output };
+        plain = record { psp = refl; storage = refl; addresses = k .addresses; numbers = k .numbers; moments = k .moments; tape = k .tape; output = k .output };
         marks = h .marks;
       }
 

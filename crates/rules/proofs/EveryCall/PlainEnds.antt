@@ -186,7 +186,7 @@ module _ (program : List Instruction) (s : Snapshot) (ten : length (s .machine .
   kept : (n : ℕ) → PlainKept s (snapshotAfter s (plainRunOf program n s .state))
   kept n =
       let h = resumable program s (plainRunOf program n s .state) enters (sound-end n) in
-      record { psp = refl; storage = refl; addresses = h .addresses; numbers = h .numbers; tape = h .tape; output = h .output }
+      record { psp = refl; storage = refl; addresses = h .addresses; numbers = h .numbers; moments = h .moments; tape = h .tape; output = h .output }
 
   settled : (n more : ℕ) → (plainAnswered s (plainRunOf program n s) .answer ≡ outcome 3 [] → ⊥)
       → withBudget (n + more) ≡ plainAnswered s (plainRunOf program n s)

@@ -6,11 +6,13 @@ use mathlib.Core.List.{List}
 use native.Mathlib.Omega.{arith}
 use lib.ListN.{length, take, length-take}
 use borrow.Author.Tests.{ltb-true, leb-true, eqb-true}
+use Rattle.rules.specs.declared.Held.{Held}
+use Rattle.rules.specs.Memory.{numbersOf, momentsOf, heldOf}
 use Rattle.rules.specs.Cells as Cells
-use Rattle.rules.specs.Cells.{zipped}
 use Rattle.rules.specs.Step.{overlay}
-use Rattle.rules.specs.Entry.{Snapshot, GuardedSnapshot, usedAddresses, plainEntry, marksEntry, guardedEntry, stateOf, guardedStateOf, snapshotAfter, guardedSnapshotAfter}
+use Rattle.rules.specs.Entry.{Snapshot, GuardedSnapshot, usedAddresses, usedNumbers, usedMoments, usedMarks, plainEntry, marksEntry, guardedEntry, stateOf, guardedStateOf, snapshotAfter, guardedSnapshotAfter}
 use Rattle.rules.proofs.Laws.CellLaws.{length-addresses, addresses-zipped, contents-zipped}
+use Rattle.rules.proofs.Laws.HeldLaws.{numbers-held, moments-held, length-held}
 use Rattle.rules.proofs.Laws.OverlayLaws.{overlay-same}
 use Rattle.rules.proofs.Laws.EntryLaws.{all-at, word-again}
 
@@ -42,19 +44,40 @@ module _ (s : Snapshot) (enters : plainEntry s ≡ true) where
   unfolding plainEntry
   same-length = eqb-true _ _ (all-at _ enters 4)
 
+  moment-length : length (s .moments) ≡ length (s .addresses)
+  unfolding plainEntry
+  moment-length = eqb-true _ _ (all-at _ enters 5)
+
   as-many : (l : List ℕ) → length l ≡ length (s .addresses) → length (usedAddresses s) ≡ length (take n l)
   as-many l e = used-length n (s .addresses) cells-fit ∙ sym (used-length n l (subst (λ m. n ≤ m) (sym e) cells-fit))
 
-  addresses-again : (l : List ℕ) → length l ≡ length (s .addresses) → Cells.addresses (zipped (usedAddresses s) (take n l)) ≡ usedAddresses s
-  addresses-again l e = let h = as-many l e in addresses-zipped (usedAddresses s) (take n l) (omega arith)
+  -- numbers and moments, as many as there are addresses
+  abbrev both : List Held
+  both = heldOf (usedNumbers s) (usedMoments s)
 
-  pub contents-again : (l : List ℕ) → length l ≡ length (s .addresses)
-      → overlay (Cells.contents (zipped (usedAddresses s) (take n l))) l ≡ l
-  contents-again l e = used-again n l (subst (λ m. n ≤ m) (sym e) cells-fit) (contents-zipped (usedAddresses s) (take n l) (as-many l e))
+  level : (length (usedAddresses s) ≡ length (usedNumbers s)) × (length (usedAddresses s) ≡ length (usedMoments s))
+  level = (as-many (s .numbers) same-length, as-many (s .moments) moment-length)
+
+  both-many : length (usedAddresses s) ≡ length both
+  both-many = level .0 ∙ sym (length-held (usedNumbers s) (usedMoments s) (omega (arith, level .0, level .1)))
+
+  addresses-again : Cells.addresses (stateOf s .cells) ≡ usedAddresses s
+  addresses-again = addresses-zipped (usedAddresses s) both (omega (arith, both-many))
+
+  numbers-again : numbersOf (Cells.contents (stateOf s .cells)) ≡ usedNumbers s
+  numbers-again =
+      ap numbersOf (contents-zipped (usedAddresses s) both both-many) ∙ numbers-held (usedNumbers s) (usedMoments s) (omega (arith, level .0, level .1))
+
+  moments-again : momentsOf (Cells.contents (stateOf s .cells)) ≡ usedMoments s
+  moments-again =
+      ap momentsOf (contents-zipped (usedAddresses s) both both-many) ∙ moments-held (usedNumbers s) (usedMoments s) (omega (arith, level .0, level .1))
+
+  -- a buffer of the cells whose used part is as it was
+  pub part-again : (l : List ℕ) → length l ≡ length (s .addresses) → {k : List ℕ} → k ≡ take n l → overlay k l ≡ l
+  part-again l e q = used-again n l (subst (λ m. n ≤ m) (sym e) cells-fit) q
 
   count-again : Cells.count (stateOf s .cells) ≡ n
-  count-again =
-      sym (length-addresses (stateOf s .cells)) ∙ ap length (addresses-again (s .numbers) same-length) ∙ used-length n (s .addresses) cells-fit
+  count-again = sym (length-addresses (stateOf s .cells)) ∙ ap length addresses-again ∙ used-length n (s .addresses) cells-fit
 
   pub restored : snapshotAfter s (stateOf s) ≡ s
   restored =
@@ -70,8 +93,9 @@ module _ (s : Snapshot) (enters : plainEntry s ≡ true) where
           «tape_count» = used-length (s .machine .«tape_count») (s .tape) tape-fits i;
           «output_count» = used-length (s .machine .«output_count») (s .output) output-fits i;
         };
-        addresses = used-again n (s .addresses) cells-fit (addresses-again (s .numbers) same-length) i;
-        numbers = contents-again (s .numbers) same-length i;
+        addresses = part-again (s .addresses) refl addresses-again i;
+        numbers = part-again (s .numbers) same-length numbers-again i;
+        moments = part-again (s .moments) moment-length moments-again i;
         tape = used-again (s .machine .«tape_count») (s .tape) tape-fits refl i;
         output = used-again (s .machine .«output_count») (s .output) output-fits refl i;
       }
@@ -81,9 +105,10 @@ unfolding guardedEntry marksEntry
 guarded-restored g enters =
     let own : plainEntry (g .plain) ≡ true = all-at _ enters 0 in
     let mark : marksEntry g ≡ true = all-at _ enters 1 in
+    let e : length (g .marks) ≡ length (g .plain .addresses) = eqb-true _ _ (all-at _ mark 0) in
     λ i.
     record {
       plain = restored (g .plain) own i;
-      marks = contents-again (g .plain) own (g .marks) (eqb-true _ _ (all-at _ mark 0)) i;
+      marks = part-again (g .plain) own (g .marks) e (contents-zipped (usedAddresses (g .plain)) (usedMarks g) (as-many (g .plain) own (g .marks) e)) i;
       extras = record { registers = word-again 10 (g .extras .registers) (ltb-true _ _ (all-at _ mark 2)) i };
     }

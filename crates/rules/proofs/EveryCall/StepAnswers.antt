@@ -9,6 +9,7 @@ use borrow.Author.Tests.{ltb-true, lt-leb, ne-eqb}
 use Rattle.rules.specs.declared.OlaOperand.{OlaOperand}
 use Rattle.rules.specs.declared.OlaOperand.the-variants.{Absent, Immediate, Register, RegisterWithOffset, RegisterWithFactor, Psp, Pc}
 use Rattle.rules.specs.declared.Instruction.{Instruction}
+use Rattle.rules.specs.declared.Held.{Held}
 use Rattle.rules.specs.declared.Refusal.{Refusal}
 use Rattle.rules.specs.declared.Refusal.the-variants.{NoInstruction}
 use Rattle.rules.specs.Field.{fieldAdd, fieldMul}
@@ -104,12 +105,12 @@ operands-read psp registers c i =
     refusing-bind _ (operand-read psp registers _ _) λ d.
     passed
 
-module _ (numberMemory markMemory : Memory ℕ) where
+module _ (numberMemory : Memory Held) (markMemory : Memory ℕ) where
   open Memory numberMemory using (Mem, get)
 
   -- Reading and storing
 
-  content-read : (s : Content ℕ) → Refusing AtStep (contentValue numberMemory s)
+  content-read : (s : Content Held) → Refusing AtStep (contentValue numberMemory s)
   unfolding refusalMeaning
   content-read absent = refusing-refused refl
   content-read (present v) = passed
@@ -130,11 +131,11 @@ module _ (numberMemory markMemory : Memory ℕ) where
   unfolding readSpan refusalMeaning
   span-read c a n = refusing-require _ _ refl (refusing-require _ _ refl (many-read c a n))
 
-  many-stored : (c : Mem) (a : ℕ) (vs : List ℕ) → Refusing AtStep (storeMany numberMemory c a vs)
+  many-stored : (moment : ℕ) (c : Mem) (a : ℕ) (vs : List ℕ) → Refusing AtStep (storeMany numberMemory moment c a vs)
   unfolding storeMany refusalMeaning
-  many-stored c a [] = passed
-  many-stored c a (v ∷ vs) =
-      refusing-require _ _ refl (refusing-require _ _ refl (refusing-require _ _ refl (many-stored _ (suc a) vs)))
+  many-stored m c a [] = passed
+  many-stored m c a (v ∷ vs) =
+      refusing-require _ _ refl (refusing-require _ _ refl (refusing-require _ _ refl (many-stored m _ (suc a) vs)))
 
   -- The operation
 
@@ -151,14 +152,14 @@ module _ (numberMemory markMemory : Memory ℕ) where
     operated rangeCheck i s o = refusing-require _ _ refl passed
     operated jump i s o = passed
     operated conditionalJump i s o = refusing-require _ _ refl (refusing-bind _ (valued _ _ _) λ b. passed)
-    operated call i s o = refusing-require _ _ refl (refusing-bind _ (many-stored _ _ _) λ c. passed)
+    operated call i s o = refusing-require _ _ refl (refusing-bind _ (many-stored _ _ _ _) λ c. passed)
     operated return i s o =
         refusing-bind _ (below-read (s .cells) (r9 numberMemory s) 1) λ pc. refusing-bind _ (below-read (s .cells) (r9 numberMemory s) 2) λ r. passed
     operated load i s o = refusing-require _ _ refl (refusing-require _ _ refl (refusing-bind _ (cell-read (s .cells) (fieldAdd (o .op0) (o .op1))) λ v. passed))
-    operated store i s o = refusing-require _ _ refl (refusing-require _ _ refl (refusing-bind _ (many-stored _ _ _) λ c. passed))
-    operated tapeLoad i s o = refusing-require _ _ refl (refusing-require _ _ refl (refusing-bind _ (many-stored _ _ _) λ c. passed))
-    operated tapeStore i s o = refusing-bind _ (span-read _ _ _) λ vs. passed
-    operated contractCall i s o = refusing-bind _ (span-read _ _ 4) λ vs. passed
+    operated store i s o = refusing-require _ _ refl (refusing-require _ _ refl (refusing-bind _ (many-stored _ _ _ _) λ c. passed))
+    operated tapeLoad i s o = refusing-require _ _ refl (refusing-require _ _ refl (refusing-bind _ (many-stored _ _ _ _) λ c. passed))
+    operated tapeStore i s o = refusing-bind _ (span-read _ _ _) λ hs. passed
+    operated contractCall i s o = refusing-bind _ (span-read _ _ 4) λ hs. passed
     operated end i s o = passed
     operated uncovered i s o = refusing-refused refl
 

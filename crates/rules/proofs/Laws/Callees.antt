@@ -1,20 +1,23 @@
 -- A step that calls carries four words, so the answer's meaning has them as they are.
 use Prim.Native.Nat.{ℕ, zero, suc}
-use mathlib.Core.Path.{_≡_, refl, ap}
+use mathlib.Core.Path.{_≡_, refl, ap, _∙_}
 use mathlib.Core.Bool.{Bool, true, false}
 use mathlib.Core.List.{List, [], _∷_}
 use native.Mathlib.Omega.{arith}
 use lib.Dec.{eqb}
 use lib.ListN.{length, getD}
 use Rattle.rules.specs.declared.Instruction.{Instruction}
+use Rattle.rules.specs.declared.Held.{Held}
 use Rattle.rules.specs.declared.Answer.the-variants.{Calling, DelegateCalling}
 use Rattle.rules.specs.Numbers.{choose}
 use Rattle.rules.specs.Results.{pass}
+use Rattle.rules.specs.Memory.{numbersOf}
 use Rattle.rules.specs.Cells.{Cells, numberCells}
 use Rattle.rules.specs.Opcodes.{Class, addition, multiplication, equality, small, complement, move, assert, rangeCheck, jump, conditionalJump, call, return, load, store, tapeLoad, tapeStore, contractCall, end, uncovered, classOf}
 use Rattle.rules.specs.Operands.{Operands}
 use Rattle.rules.specs.Step.{Environment, State, Finish, goesOn, ends, calls, delegates, callee, readMany, readSpan, operate, step}
 use Rattle.rules.specs.Answers.{outcome, meaning}
+use Rattle.rules.proofs.Laws.HeldLaws.{length-map}
 use Rattle.rules.proofs.Laws.Passing.{Passing, passing-refused, passed, passing-require, passing-bind, passing-any, passing-at}
 
 abbrev Four : Finish → Type 0
@@ -23,12 +26,12 @@ Four ends = Unit {0}
 Four (calls vs) = length vs ≡ 4
 Four (delegates vs) = length vs ≡ 4
 
-many-read : (c : Cells ℕ) (a n : ℕ) → Passing (λ vs. length vs ≡ n) (readMany numberCells c a n)
+many-read : (c : Cells Held) (a n : ℕ) → Passing (λ vs. length vs ≡ n) (readMany numberCells c a n)
 unfolding readMany
 many-read c a zero = passed refl
 many-read c a (suc n) = passing-any _ _ λ v. passing-bind _ (many-read c (suc a) n) λ vs h. passed (ap suc h)
 
-span-read : (c : Cells ℕ) (a n : ℕ) → Passing (λ vs. length vs ≡ n) (readSpan numberCells c a n)
+span-read : (c : Cells Held) (a n : ℕ) → Passing (λ vs. length vs ≡ n) (readSpan numberCells c a n)
 unfolding readSpan
 span-read c a n = passing-require _ λ u. passing-require _ λ l. many-read c a n
 
@@ -54,8 +57,8 @@ module _ (e : Environment) (i : Instruction) (s : State numberCells) (o : Operan
   operated load = passing-require _ λ a. passing-require _ λ b. passing-any _ _ λ v. passed tt
   operated store = passing-require _ λ a. passing-require _ λ b. passing-any _ _ λ c. passed tt
   operated tapeLoad = passing-require _ λ a. passing-require _ λ b. passing-any _ _ λ c. passed tt
-  operated tapeStore = passing-any _ _ λ vs. passed tt
-  operated contractCall = passing-bind _ (span-read (s .cells) (o .op0) 4) λ vs h. passed (either-way (eqb (o .op1) 1) vs h)
+  operated tapeStore = passing-any _ _ λ hs. passed tt
+  operated contractCall = passing-bind _ (span-read (s .cells) (o .op0) 4) λ hs h. passed (either-way (eqb (o .op1) 1) (numbersOf hs) (length-map _ hs ∙ h))
   operated end = passed tt
   operated uncovered = passing-refused
 

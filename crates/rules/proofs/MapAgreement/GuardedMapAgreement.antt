@@ -3,6 +3,7 @@ use Prim.Native.Nat.{ℕ, zero, suc, _-_}
 use mathlib.Core.Path.{_≡_, refl, ap, subst}
 use mathlib.Core.List.{List, [], _∷_}
 use Rattle.rules.specs.declared.Instruction.{Instruction}
+use Rattle.rules.specs.declared.Held.{Held}
 use Rattle.rules.specs.Results.{GuardedResult}
 use Rattle.rules.specs.Cells.{Cells, numberCells, markCells}
 use Rattle.rules.specs.PlainMap.{PlainMap, numberMap, markMap}
@@ -40,7 +41,7 @@ marks-with {u = u} h = λ i. record { registers = h .registers i; cells = u .cel
 
 -- The stages, over one state and one set of marks, each also with plain maps for its cells
 
-module _ (i : Instruction) (s : State numberCells) (m : PlainMap ℕ) (o : Operands) (t : MarkState markCells) (n : PlainMap ℕ) (g : SameMemory (t .cells) n) where
+module _ (i : Instruction) (s : State numberCells) (m : PlainMap Held) (o : Operands) (t : MarkState markCells) (n : PlainMap ℕ) (g : SameMemory (t .cells) n) where
   same-read-sink : (c : Class) → readSink numberCells markCells t c i s o ≡ readSink numberMap markMap (marksWith t n) c i (withMap s m) o
   unfolding readSink
   same-read-sink addition = refl
@@ -87,10 +88,10 @@ module _ (i : Instruction) (s : State numberCells) (m : PlainMap ℕ) (o : Opera
 
 -- Step and run
 
-abbrev guardedWith : GuardedState numberCells markCells → PlainMap ℕ → PlainMap ℕ → GuardedState numberMap markMap
+abbrev guardedWith : GuardedState numberCells markCells → PlainMap Held → PlainMap ℕ → GuardedState numberMap markMap
 guardedWith q m n = record { plain = withMap (q .plain) m; marks = marksWith (q .marks) n }
 
-same-guarded-with : (e : Environment) (q : GuardedState numberCells markCells) (m n : PlainMap ℕ) → SameMemory (q .plain .cells) m → SameMemory (q .marks .cells) n
+same-guarded-with : (e : Environment) (q : GuardedState numberCells markCells) (m : PlainMap Held) (n : PlainMap ℕ) → SameMemory (q .plain .cells) m → SameMemory (q .marks .cells) n
     → BothGuarded SameGuardedNext (guardedStep numberCells markCells e q) (guardedStep numberMap markMap e (guardedWith q m n))
 unfolding guardedStep guardedRest
 same-guarded-with e q m n h g =

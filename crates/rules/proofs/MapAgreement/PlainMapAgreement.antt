@@ -4,10 +4,11 @@ use mathlib.Core.Path.{_≡_, refl, ap, subst, _∙_}
 use mathlib.Core.List.{List, [], _∷_}
 use lib.Dec.{leb, eqb}
 use Rattle.rules.specs.declared.Instruction.{Instruction}
+use Rattle.rules.specs.declared.Held.{Held}
 use Rattle.rules.specs.declared.Refusal.the-variants.{NotInField, NotSmall, AssertFailed, RangeCheckFailed, CellAbsent, TapeFault, StoreFault, ProphetStore, NoCapacity}
 use Rattle.rules.specs.Numbers.{choose}
 use Rattle.rules.specs.Results.{Result, pass, require}
-use Rattle.rules.specs.Memory.{present}
+use Rattle.rules.specs.Memory.{present, held}
 use Rattle.rules.specs.Cells.{Cells, put, Rising, numberCells}
 use Rattle.rules.specs.PlainMap.{PlainMap, mapPut, numberMap}
 use Rattle.rules.specs.Opcodes.{Class, addition, multiplication, equality, small, complement, move, assert, rangeCheck, jump, conditionalJump, call, return, load, store, tapeLoad, tapeStore, contractCall, end, uncovered, classOf}
@@ -20,45 +21,45 @@ use Rattle.rules.proofs.Laws.Relational.{both-bind, both-bind-equal, bo
 
 -- Memory
 
-pub same-map : (c : Cells ℕ) → Rising c → SameMemory c (mapOf c)
+pub same-map : {A : Type 0} (c : Cells A) → Rising c → SameMemory c (mapOf c)
 same-map c r = record { rising = r; same = λ a. refl; size = refl }
 
-pub same-put : {c : Cells ℕ} {m : PlainMap ℕ} → SameMemory c m → (a v : ℕ) → SameMemory (put c a v) (mapPut m a v)
-same-put {c} {m} h a v =
+pub same-put : {A : Type 0} {c : Cells A} {m : PlainMap A} → SameMemory c m → (a : ℕ) (v : A) → SameMemory (put c a v) (mapPut m a v)
+same-put {c = c} h a v =
     record {
       rising = rising-put c a v (h .rising);
       same = λ x. get-put c a v x ∙ ap (choose (eqb a x) (present v)) (h .same x);
       size = count-put 0 c a v (h .rising) ∙ (rw (h .same a, h .size));
     }
 
-same-read : {c : Cells ℕ} {m : PlainMap ℕ} → SameMemory c m → (a : ℕ) → read numberCells c a ≡ read numberMap m a
+same-read : {c : Cells Held} {m : PlainMap Held} → SameMemory c m → (a : ℕ) → read numberCells c a ≡ read numberMap m a
 same-read h a = ap (contentValue numberCells) (h .same a)
 
-same-below : {c : Cells ℕ} {m : PlainMap ℕ} → SameMemory c m → (r k : ℕ) → readBelow numberCells c r k ≡ readBelow numberMap m r k
+same-below : {c : Cells Held} {m : PlainMap Held} → SameMemory c m → (r k : ℕ) → readBelow numberCells c r k ≡ readBelow numberMap m r k
 same-below h r k = ap (require (leb k r) CellAbsent) (same-read h (r - k))
 
-same-many : {c : Cells ℕ} {m : PlainMap ℕ} → SameMemory c m → (a n : ℕ) → readMany numberCells c a n ≡ readMany numberMap m a n
+same-many : {c : Cells Held} {m : PlainMap Held} → SameMemory c m → (a n : ℕ) → readMany numberCells c a n ≡ readMany numberMap m a n
 unfolding readMany
 same-many h a zero = refl
 same-many h a (suc n) = rw (same-read h a, same-many h (suc a) n)
 
-same-span : {c : Cells ℕ} {m : PlainMap ℕ} → SameMemory c m → (a n : ℕ) → readSpan numberCells c a n ≡ readSpan numberMap m a n
+same-span : {c : Cells Held} {m : PlainMap Held} → SameMemory c m → (a n : ℕ) → readSpan numberCells c a n ≡ readSpan numberMap m a n
 unfolding readSpan
 same-span h a n = rw (same-many h a n)
 
-same-store : {c : Cells ℕ} {m : PlainMap ℕ} → SameMemory c m → (a : ℕ) (vs : List ℕ)
-    → Both SameMemory (storeMany numberCells c a vs) (storeMany numberMap m a vs)
+same-store : {c : Cells Held} {m : PlainMap Held} → SameMemory c m → (moment a : ℕ) (vs : List ℕ)
+    → Both SameMemory (storeMany numberCells moment c a vs) (storeMany numberMap moment m a vs)
 unfolding storeMany
-same-store h a [] = passed h
-same-store h a (v ∷ vs) =
+same-store h t a [] = passed h
+same-store h t a (v ∷ vs) =
     both-require StoreFault refl
     (both-require StoreFault refl
     (both-require ProphetStore refl
-    (same-store (same-put h a v) (suc a) vs)))
+    (same-store (same-put h a (held v t)) t (suc a) vs)))
 
 -- A state and the same state over a map: what is no cell is one value
 
-pub same-with : {s : State numberCells} {m : PlainMap ℕ} → SameMemory (s .cells) m → SameState s (withMap s m)
+pub same-with : {s : State numberCells} {m : PlainMap Held} → SameMemory (s .cells) m → SameState s (withMap s m)
 same-with h = record { registers = refl; pc = refl; clk = refl; cells = h; tape = refl; output = refl; written = refl }
 
 pub with-same : {s : State numberCells} {t : State numberMap} → SameState s t → withMap s (t .cells) ≡ t
@@ -74,7 +75,7 @@ with-same {s} {t} h =
       written = h .written i;
     }
 
-module _ (e : Environment) (i : Instruction) (s : State numberCells) (m : PlainMap ℕ) (o : Operands) (h : SameMemory (s .cells) m) where
+module _ (e : Environment) (i : Instruction) (s : State numberCells) (m : PlainMap Held) (o : Operands) (h : SameMemory (s .cells) m) where
   moved : {n : Next numberCells} {k : Next numberMap} → SameState (n .state) (k .state) → n .finish ≡ k .finish → Both SameNext (pass n) (pass k)
   moved x y = passed (record { state = x; finish = y })
 
@@ -90,7 +91,7 @@ module _ (e : Environment) (i : Instruction) (s : State numberCells) (m : PlainM
   same-operate rangeCheck = both-require RangeCheckFailed refl (moved (same-with h) refl)
   same-operate jump = moved (same-with h) refl
   same-operate conditionalJump = both-require NotSmall refl (both-bind-equal _ _ refl λ b. moved (same-with h) refl)
-  same-operate call = both-require StoreFault refl (both-bind _ _ (same-store h _ _) λ c d k. moved (same-with k) refl)
+  same-operate call = both-require StoreFault refl (both-bind _ _ (same-store h _ _ _) λ c d k. moved (same-with k) refl)
   same-operate return =
       both-bind-equal _ _ (same-below h (r9 numberCells s) 1) λ pc.
       both-bind-equal _ _ (same-below h (r9 numberCells s) 2) λ r.
@@ -100,13 +101,13 @@ module _ (e : Environment) (i : Instruction) (s : State numberCells) (m : PlainM
   same-operate store =
       both-require NotInField refl
       (both-require NotInField refl
-      (both-bind _ _ (same-store h _ _) λ c d k. moved (same-with k) refl))
+      (both-bind _ _ (same-store h _ _ _) λ c d k. moved (same-with k) refl))
   same-operate tapeLoad =
       both-require TapeFault refl
       (both-require StoreFault refl
-      (both-bind _ _ (same-store h _ _) λ c d k. moved (same-with k) refl))
-  same-operate tapeStore = both-bind-equal _ _ (same-span h _ _) λ vs. moved (same-with h) refl
-  same-operate contractCall = both-bind-equal _ _ (same-span h _ 4) λ vs. moved (same-with h) refl
+      (both-bind _ _ (same-store h _ _ _) λ c d k. moved (same-with k) refl))
+  same-operate tapeStore = both-bind-equal _ _ (same-span h _ _) λ hs. moved (same-with h) refl
+  same-operate contractCall = both-bind-equal _ _ (same-span h _ 4) λ hs. moved (same-with h) refl
   same-operate end = moved (same-with h) refl
   same-operate uncovered = both-refused
 
@@ -117,7 +118,7 @@ pub same-capacity : (e : Environment) {n : Next numberCells} {k : Next numberMap
     → Both SameNext (capacity numberCells e n) (capacity numberMap e k)
 same-capacity e h = both-require NoCapacity (same-fits e (h .state)) (passed h)
 
-same-step-with : (e : Environment) (s : State numberCells) (m : PlainMap ℕ) → SameMemory (s .cells) m
+same-step-with : (e : Environment) (s : State numberCells) (m : PlainMap Held) → SameMemory (s .cells) m
     → Both SameNext (step numberCells e s) (step numberMap e (withMap s m))
 unfolding step
 same-step-with e s m h =

@@ -1,6 +1,6 @@
 -- Alike snapshots: the states that they stand for are related, and related states leave alike snapshots.
 use Prim.Native.Nat.{ℕ, zero, suc, _+_, _≤_, _<_, min}
-use mathlib.Core.Path.{_≡_, refl, sym, ap, subst, _∙_}
+use mathlib.Core.Path.{_≡_, refl, sym, ap, subst, subst₂, _∙_}
 use mathlib.Core.Bool.{Bool, true, false}
 use mathlib.Core.List.{List, [], _∷_, map}
 use native.Mathlib.Omega.{arith}
@@ -8,15 +8,18 @@ use lib.Dec.{leb, eqb}
 use lib.ListN.{length, getD, take, drop, length-append, length-take, length-drop}
 use lib.Seq.{take-append-le}
 use borrow.Author.Tests.{eqb-true}
+use Rattle.rules.specs.declared.Held.{Held}
 use Rattle.rules.specs.Numbers.{p}
+use Rattle.rules.specs.Memory.{numbersOf, momentsOf, heldOf}
 use Rattle.rules.specs.Cells as Cells
 use Rattle.rules.specs.Cells.{Cells, zipped, count, numberCells, markCells}
 use Rattle.rules.specs.Step.{State, isStorable, overlay}
 use Rattle.rules.specs.Guarded.{MarkState}
-use Rattle.rules.specs.Entry.{GuardedSnapshot, usedAddresses, usedNumbers, usedMarks, lowBits, wordOfBits, markedRegisters, markedCells, every, risingFrom, all, plainEntry, markedNumbersBelow, marksEntry, guardedEntry, stateOf, guardedStateOf, guardedSnapshotAfter}
+use Rattle.rules.specs.Entry.{GuardedSnapshot, usedAddresses, usedNumbers, usedMoments, usedMarks, lowBits, wordOfBits, markedRegisters, markedCells, every, risingFrom, all, plainEntry, markedNumbersBelow, marksEntry, guardedEntry, stateOf, guardedStateOf, guardedSnapshotAfter}
 use Rattle.rules.specs.NonInterference.{MarkedBelow, EqualUnless, Agree, Alike}
 use Rattle.rules.proofs.Laws.BoolLaws.{and-equal}
 use Rattle.rules.proofs.Laws.CellLaws.{length-addresses, length-contents}
+use Rattle.rules.proofs.Laws.HeldLaws.{length-map}
 use Rattle.rules.proofs.Laws.EntryLaws.{all-at, markedBelow-of, lowBits-word}
 use Rattle.rules.proofs.Laws.OverlayLaws.{used-overlay, take-overlay}
 use Rattle.rules.proofs.NonInterference.AlikeStates.{Related, equal, hidden, RegistersRelated, CellsRelated, StatesRelated, related-storable, registers-get, cells-count}
@@ -55,10 +58,12 @@ agree-by al n r =
       outputCount = al .outputCount;
       addressLength = al .addressLength;
       numberLength = al .numberLength;
+      momentLength = al .momentLength;
       markLength = al .markLength;
       tapeLength = al .tapeLength;
       outputLength = al .outputLength;
       addresses = al .addresses;
+      moments = al .moments;
       marks = al .marks;
       tape = al .tape;
       output = al .output;
@@ -117,6 +122,8 @@ plainEntry-same g h al =
     let r : risingFrom 0 (usedAddresses (g .plain)) ≡ risingFrom 0 (usedAddresses (h .plain)) = ap (risingFrom 0) (al .addresses) in
     let n : every isStorable (usedNumbers (g .plain)) ≡ every isStorable (usedNumbers (h .plain)) =
     every-storable (markedCells g) (usedNumbers (g .plain)) (usedNumbers (h .plain)) (same-used al) (al .numbers) in
+    let m : every (λ t. leb t (g .plain .machine .clk)) (usedMoments (g .plain)) ≡ every (λ t. leb t (h .plain .machine .clk)) (usedMoments (h .plain)) =
+    λ j. every (λ t. leb t (al .clk j)) (al .moments j) in
     cc
 
 pub guardedEntry-same : (g h : GuardedSnapshot) → Close g h → MarkedBelow g → MarkedBelow h → guardedEntry g ≡ guardedEntry h
@@ -139,14 +146,17 @@ registers-related (b ∷ l) (x ∷ v) [] d e h = absurd (omega arith)
 registers-related (b ∷ l) (x ∷ v) (y ∷ w) d e h =
     RegistersRelated.cons (h 0) (registers-related l v w (suc-injective d) (suc-injective e) (λ i. h (suc i)))
 
-cells-related : (a t v w : List ℕ) → length a ≡ length t → length a ≡ length v → length a ≡ length w → Places (map (λ t. eqb t 1) t) v w
-    → CellsRelated (zipped a t) (zipped a v) (zipped a w)
-cells-related [] t v w c d e h = CellsRelated.nil
-cells-related (x ∷ a) [] v w c d e h = absurd (omega arith)
-cells-related (x ∷ a) (k ∷ t) [] w c d e h = absurd (omega arith)
-cells-related (x ∷ a) (k ∷ t) (m ∷ v) [] c d e h = absurd (omega arith)
-cells-related (x ∷ a) (k ∷ t) (m ∷ v) (n ∷ w) c d e h =
-    CellsRelated.cons (h 0) (cells-related a t v w (suc-injective c) (suc-injective d) (suc-injective e) (λ i. h (suc i)))
+-- the moments are one list for both
+cells-related : (a t v w m : List ℕ) → length a ≡ length t → length a ≡ length v → length a ≡ length w → length a ≡ length m
+    → Places (map (λ t. eqb t 1) t) v w → CellsRelated (zipped a t) (zipped a (heldOf v m)) (zipped a (heldOf w m))
+cells-related [] t v w m b c d e h = CellsRelated.nil
+cells-related (x ∷ a) [] v w m b c d e h = absurd (omega arith)
+cells-related (x ∷ a) (k ∷ t) [] w m b c d e h = absurd (omega arith)
+cells-related (x ∷ a) (k ∷ t) (y ∷ v) [] m b c d e h = absurd (omega arith)
+cells-related (x ∷ a) (k ∷ t) (y ∷ v) (z ∷ w) [] b c d e h = absurd (omega arith)
+cells-related (x ∷ a) (k ∷ t) (y ∷ v) (z ∷ w) (o ∷ m) b c d e h =
+    CellsRelated.cons (record { number = h 0; moment = refl })
+    (cells-related a t v w m (suc-injective b) (suc-injective c) (suc-injective d) (suc-injective e) (λ i. h (suc i)))
 
 same-take : (n : ℕ) (a b : List ℕ) → length a ≡ length b → length (take n a) ≡ length (take n b)
 same-take n a b e = length-take n a ∙ ap (min n) e ∙ sym (length-take n b)
@@ -154,6 +164,10 @@ same-take n a b e = length-take n a ∙ ap (min n) e ∙ sym (length-take n b)
 numbers-length : (g : GuardedSnapshot) → guardedEntry g ≡ true → length (g .plain .numbers) ≡ length (g .plain .addresses)
 unfolding guardedEntry plainEntry
 numbers-length g t = eqb-true _ _ (all-at _ (all-at _ t 0) 4)
+
+moments-length : (g : GuardedSnapshot) → guardedEntry g ≡ true → length (g .plain .moments) ≡ length (g .plain .addresses)
+unfolding guardedEntry plainEntry
+moments-length g t = eqb-true _ _ (all-at _ (all-at _ t 0) 5)
 
 marks-length : (g : GuardedSnapshot) → guardedEntry g ≡ true → length (g .marks) ≡ length (g .plain .addresses)
 unfolding guardedEntry marksEntry
@@ -172,12 +186,15 @@ states-related g h al t =
       pc = al .pc;
       clk = al .clk;
       cells =
-          subst (λ a. CellsRelated (zipped (usedAddresses (g .plain)) (usedMarks g)) (zipped (usedAddresses (g .plain)) (usedNumbers (g .plain))) (zipped a (usedNumbers (h .plain))))
+          subst₂
+          (λ a k. CellsRelated (zipped (usedAddresses (g .plain)) (usedMarks g)) (stateOf (g .plain) .cells) (zipped a (heldOf (usedNumbers (h .plain)) k)))
           (al .addresses)
-          (cells-related (usedAddresses (g .plain)) (usedMarks g) (usedNumbers (g .plain)) (usedNumbers (h .plain))
+          (al .moments)
+          (cells-related (usedAddresses (g .plain)) (usedMarks g) (usedNumbers (g .plain)) (usedNumbers (h .plain)) (usedMoments (g .plain))
           (same-take c (g .plain .addresses) (g .marks) (sym m))
           (same-take c (g .plain .addresses) (g .plain .numbers) (sym n))
           (same-take c (g .plain .addresses) (g .plain .numbers) (sym n) ∙ same-used al)
+          (same-take c (g .plain .addresses) (g .plain .moments) (sym (moments-length g t)))
           (al .numbers));
       tape = al .tape;
       output = al .output;
@@ -188,18 +205,27 @@ states-related g h al t =
 
 -- What they leave
 
-related-addresses : {k c d : Cells ℕ} → CellsRelated k c d → Cells.addresses c ≡ Cells.addresses d
+related-addresses : {k : Cells ℕ} {c d : Cells Held} → CellsRelated k c d → Cells.addresses c ≡ Cells.addresses d
 related-addresses CellsRelated.nil = refl
 related-addresses (CellsRelated.cons {a = a} h t) = ap (λ l. a ∷ l) (related-addresses t)
 
-related-marks : {k c d : Cells ℕ} → CellsRelated k c d → length (Cells.contents k) ≡ count c
+related-marks : {k : Cells ℕ} {c d : Cells Held} → CellsRelated k c d → length (Cells.contents k) ≡ count c
 related-marks CellsRelated.nil = refl
 related-marks (CellsRelated.cons h t) = ap suc (related-marks t)
 
-related-places : {k c d : Cells ℕ} → CellsRelated k c d → Places (map (λ t. eqb t 1) (Cells.contents k)) (Cells.contents c) (Cells.contents d)
+related-moments : {k : Cells ℕ} {c d : Cells Held} → CellsRelated k c d → momentsOf (Cells.contents c) ≡ momentsOf (Cells.contents d)
+related-moments CellsRelated.nil = refl
+related-moments (CellsRelated.cons h t) = let a = h .moment in let b = related-moments t in cc
+
+related-places : {k : Cells ℕ} {c d : Cells Held} → CellsRelated k c d
+    → Places (map (λ t. eqb t 1) (Cells.contents k)) (numbersOf (Cells.contents c)) (numbersOf (Cells.contents d))
 related-places CellsRelated.nil i = equal refl
-related-places (CellsRelated.cons h t) zero = h
+related-places (CellsRelated.cons h t) zero = h .number
 related-places (CellsRelated.cons h t) (suc i) = related-places t i
+
+-- of one part of what the cells hold
+part-length : (f : Held → ℕ) (c : Cells Held) → length (map f (Cells.contents c)) ≡ count c
+part-length f c = length-map f (Cells.contents c) ∙ length-contents c
 
 left-length : {l : List Bool} {v w : List ℕ} → RegistersRelated l v w → length v ≡ length l
 left-length RegistersRelated.nil = refl
@@ -231,8 +257,10 @@ snapshots-left g h al t s u n =
     let ha : take (count (u .cells)) (overlay (Cells.addresses (u .cells)) (h .plain .addresses)) ≡ Cells.addresses (u .cells) = take-overlay _ _ _ (length-addresses (u .cells)) in
     let gt : take (count (s .cells)) (overlay (Cells.contents (t .cells)) (g .marks)) ≡ Cells.contents (t .cells) = take-overlay _ _ _ (related-marks (n .cells)) in
     let ht : take (count (u .cells)) (overlay (Cells.contents (t .cells)) (h .marks)) ≡ Cells.contents (t .cells) = take-overlay _ _ _ (related-marks (n .cells) ∙ counts) in
-    let gn : take (count (s .cells)) (overlay (Cells.contents (s .cells)) (g .plain .numbers)) ≡ Cells.contents (s .cells) = take-overlay _ _ _ (length-contents (s .cells)) in
-    let hn : take (count (u .cells)) (overlay (Cells.contents (u .cells)) (h .plain .numbers)) ≡ Cells.contents (u .cells) = take-overlay _ _ _ (length-contents (u .cells)) in
+    let gn : take (count (s .cells)) (overlay (numbersOf (Cells.contents (s .cells))) (g .plain .numbers)) ≡ numbersOf (Cells.contents (s .cells)) = take-overlay _ _ _ (part-length (λ h. h .number) (s .cells)) in
+    let hn : take (count (u .cells)) (overlay (numbersOf (Cells.contents (u .cells))) (h .plain .numbers)) ≡ numbersOf (Cells.contents (u .cells)) = take-overlay _ _ _ (part-length (λ h. h .number) (u .cells)) in
+    let gm : take (count (s .cells)) (overlay (momentsOf (Cells.contents (s .cells))) (g .plain .moments)) ≡ momentsOf (Cells.contents (s .cells)) = take-overlay _ _ _ (part-length (λ h. h .moment) (s .cells)) in
+    let hm : take (count (u .cells)) (overlay (momentsOf (Cells.contents (u .cells))) (h .plain .moments)) ≡ momentsOf (Cells.contents (u .cells)) = take-overlay _ _ _ (part-length (λ h. h .moment) (u .cells)) in
     record {
       pc = n .pc;
       clk = n .clk;
@@ -245,12 +273,16 @@ snapshots-left g h al t s u n =
           overlay-lengths (Cells.addresses (s .cells)) (Cells.addresses (u .cells)) (g .plain .addresses) (h .plain .addresses)
           (ap length (related-addresses (n .cells))) (al .addressLength);
       numberLength =
-          overlay-lengths (Cells.contents (s .cells)) (Cells.contents (u .cells)) (g .plain .numbers) (h .plain .numbers)
-          (length-contents (s .cells) ∙ counts ∙ sym (length-contents (u .cells))) (al .numberLength);
+          overlay-lengths (numbersOf (Cells.contents (s .cells))) (numbersOf (Cells.contents (u .cells))) (g .plain .numbers) (h .plain .numbers)
+          (part-length (λ h. h .number) (s .cells) ∙ counts ∙ sym (part-length (λ h. h .number) (u .cells))) (al .numberLength);
+      momentLength =
+          overlay-lengths (momentsOf (Cells.contents (s .cells))) (momentsOf (Cells.contents (u .cells))) (g .plain .moments) (h .plain .moments)
+          (ap length (related-moments (n .cells))) (al .momentLength);
       markLength = overlay-lengths (Cells.contents (t .cells)) (Cells.contents (t .cells)) (g .marks) (h .marks) refl (al .markLength);
       tapeLength = overlay-lengths (s .tape) (u .tape) (g .plain .tape) (h .plain .tape) (ap length (n .tape)) (al .tapeLength);
       outputLength = overlay-lengths (s .written) (u .written) (g .plain .output) (h .plain .output) (ap length (n .written)) (al .outputLength);
       addresses = ga ∙ related-addresses (n .cells) ∙ sym ha;
+      moments = gm ∙ related-moments (n .cells) ∙ sym hm;
       marks = gt ∙ sym ht;
       tape = used-overlay (s .tape) (g .plain .tape) ∙ n .tape ∙ sym (used-overlay (u .tape) (h .plain .tape));
       output = output-same (s .output) (u .output) (g .plain .output) (h .plain .output) (s .written) (u .written) (n .output) (n .written) (n .within);

@@ -8,6 +8,7 @@ use native.Mathlib.Nat.{mod-lt}
 use lib.Dec.{ltb, eqb, lit<}
 use lib.ListN.{length, getD, set}
 use borrow.Author.Tests.{lt-ltb, le-leb, eqb-true}
+use Rattle.rules.specs.declared.Held.{Held}
 use Rattle.rules.specs.declared.OlaOperand.{OlaOperand}
 use Rattle.rules.specs.declared.OlaOperand.the-variants.{Absent, Immediate, Register, RegisterWithOffset, RegisterWithFactor, Psp, Pc}
 use Rattle.rules.specs.declared.Refusal.the-variants.{NotInField, CellAbsent, StoreFault, ProphetStore, SpanPastRegion}
@@ -29,15 +30,20 @@ pub data Related : Bool → ℕ → ℕ → Type 0 where
   equal : {v w : ℕ} → v ≡ w → Related false v w
   hidden : {v w : ℕ} → v < p → w < p → Related true v w
 
+-- what two cells hold under one mark: the moments are equal, marked or not
+pub record HeldRelated (b : Bool) (v w : Held) : Type 0 where
+  pub number : Related b (v .number) (w .number)
+  pub moment : v .moment ≡ w .moment
+
 -- registers, and cells, under their marks
 pub data RegistersRelated : List Bool → List ℕ → List ℕ → Type 0 where
   nil : RegistersRelated [] [] []
   cons : {b : Bool} {v w : ℕ} {l : List Bool} {r s : List ℕ} → Related b v w → RegistersRelated l r s
       → RegistersRelated (b ∷ l) (v ∷ r) (w ∷ s)
 
-pub data CellsRelated : Cells ℕ → Cells ℕ → Cells ℕ → Type 0 where
+pub data CellsRelated : Cells ℕ → Cells Held → Cells Held → Type 0 where
   nil : CellsRelated none none none
-  cons : {a t v w : ℕ} {k c d : Cells ℕ} → Related (eqb t 1) v w → CellsRelated k c d
+  cons : {a t : ℕ} {v w : Held} {k : Cells ℕ} {c d : Cells Held} → HeldRelated (eqb t 1) v w → CellsRelated k c d
       → CellsRelated (cell a t k) (cell a v c) (cell a w d)
 
 pub record StatesRelated (t : MarkState markCells) (s u : State numberCells) : Type 0 where
@@ -89,6 +95,9 @@ unmarked e (hidden h k) = absurd (false-true (sym e))
 
 pub equally : {b : Bool} {v w : ℕ} → b ≡ false → v ≡ w → Related b v w
 equally {b} {v} {w} e h = subst (λ c. Related c v w) (sym e) (equal h)
+
+unmarked-held : {b : Bool} {v w : Held} → b ≡ false → HeldRelated b v w → v ≡ w
+unmarked-held e h = λ i. record { number = unmarked e (h .number) i; moment = h .moment i }
 
 -- a result that is always below p, under the marks of two operands, and of one
 pub related-both : {a b : Bool} {v w x y : ℕ} (f : ℕ → ℕ → ℕ) → ((x y : ℕ) → f x y < p) → Related a v w → Related b x y
@@ -142,11 +151,11 @@ registers-set (cons x t) (suc i) b h = cons x (registers-set t i b h)
 
 -- cells
 
-data ContentsRelated : Content ℕ → Content ℕ → Content ℕ → Type 0 where
+data ContentsRelated : Content ℕ → Content Held → Content Held → Type 0 where
   no-content : ContentsRelated absent absent absent
-  a-content : {t v w : ℕ} → Related (eqb t 1) v w → ContentsRelated (present t) (present v) (present w)
+  a-content : {t : ℕ} {v w : Held} → HeldRelated (eqb t 1) v w → ContentsRelated (present t) (present v) (present w)
 
-cells-get : {k c d : Cells ℕ} → CellsRelated k c d → (a : ℕ) → ContentsRelated (get k a) (get c a) (get d a)
+cells-get : {k : Cells ℕ} {c d : Cells Held} → CellsRelated k c d → (a : ℕ) → ContentsRelated (get k a) (get c a) (get d a)
 cells-get nil a = no-content
 cells-get (cons {a = b} {t} {v} {w} {k} {c} {d} h r) a = go (cells-get r a) (eqb b a)
   where
@@ -155,7 +164,7 @@ cells-get (cons {a = b} {t} {v} {w} {k} {c} {d} h r) a = go (cells-get r a) (eqb
     go s true = a-content h
     go s false = s
 
-cells-put : {k c d : Cells ℕ} → CellsRelated k c d → (a t : ℕ) {v w : ℕ} → Related (eqb t 1) v w
+cells-put : {k : Cells ℕ} {c d : Cells Held} → CellsRelated k c d → (a t : ℕ) {v w : Held} → HeldRelated (eqb t 1) v w
     → CellsRelated (put k a t) (put c a v) (put d a w)
 cells-put nil a t h = cons h nil
 cells-put (cons {a = b} {t = n} {v = x} {w = y} {k} {c} {d} g r) a t {v} {w} h = go (cells-put r a t h) (ltb a b) (eqb a b)
@@ -169,25 +178,26 @@ cells-put (cons {a = b} {t = n} {v = x} {w = y} {k} {c} {d} g r) a t {v} {w} h =
     go s false true = cons h r
     go s false false = cons g s
 
-pub cells-count : {k c d : Cells ℕ} → CellsRelated k c d → count c ≡ count d
+pub cells-count : {k : Cells ℕ} {c d : Cells Held} → CellsRelated k c d → count c ≡ count d
 cells-count nil = refl
 cells-count (cons h t) = ap suc (cells-count t)
 
 -- reading
 
-content-read : {k c d : Content ℕ} → ContentsRelated k c d → Both (Related (contentMark markCells k)) (contentValue numberCells c) (contentValue numberCells d)
+content-read : {k : Content ℕ} {c d : Content Held} → ContentsRelated k c d
+    → Both (HeldRelated (contentMark markCells k)) (contentValue numberCells c) (contentValue numberCells d)
 content-read no-content = both-refused
 content-read (a-content h) = passed h
 
-pub cell-read : {k c d : Cells ℕ} → CellsRelated k c d → (a : ℕ)
-    → Both (Related (cellMark markCells k a)) (contentValue numberCells (get c a)) (contentValue numberCells (get d a))
+pub cell-read : {k : Cells ℕ} {c d : Cells Held} → CellsRelated k c d → (a : ℕ)
+    → Both (HeldRelated (cellMark markCells k a)) (contentValue numberCells (get c a)) (contentValue numberCells (get d a))
 cell-read h a = content-read (cells-get h a)
 
-pub below-read : {k c d : Cells ℕ} → CellsRelated k c d → (r n : ℕ)
-    → Both (Related (cellMark markCells k (r - n))) (readBelow numberCells c r n) (readBelow numberCells d r n)
+pub below-read : {k : Cells ℕ} {c d : Cells Held} → CellsRelated k c d → (r n : ℕ)
+    → Both (HeldRelated (cellMark markCells k (r - n))) (readBelow numberCells c r n) (readBelow numberCells d r n)
 below-read h r n = both-require CellAbsent refl (cell-read h (r - n))
 
-many-read : {k c d : Cells ℕ} → CellsRelated k c d → (a n : ℕ)
+many-read : {k : Cells ℕ} {c d : Cells Held} → CellsRelated k c d → (a n : ℕ)
     → Both (λ u v. spanMark markCells k a n ≡ false → u ≡ v) (readMany numberCells c a n) (readMany numberCells d a n)
 unfolding readMany spanMark
 many-read h a zero = passed (λ t. refl)
@@ -196,31 +206,33 @@ many-read {k} h a (suc n) =
     both-bind _ _ (many-read h (suc a) n) λ vs ws q.
     passed
     (λ t.
-    let e : v ≡ w = unmarked (or-left (cellMark markCells k a) _ t) r in
+    let e : v ≡ w = unmarked-held (or-left (cellMark markCells k a) _ t) r in
     let f : vs ≡ ws = q (or-right (cellMark markCells k a) _ t) in
     cc)
 
-pub span-read : {k c d : Cells ℕ} → CellsRelated k c d → (a n : ℕ)
+pub span-read : {k : Cells ℕ} {c d : Cells Held} → CellsRelated k c d → (a n : ℕ)
     → Both (λ u v. spanMark markCells k a n ≡ false → u ≡ v) (readSpan numberCells c a n) (readSpan numberCells d a n)
 unfolding readSpan
 span-read h a n = both-require SpanPastRegion refl (both-require CellAbsent refl (many-read h a n))
 
 -- storing
 
-pub one-stored : {k c d : Cells ℕ} → CellsRelated k c d → (a : ℕ) (b : Bool) {v w : ℕ} → Related b v w
-    → Both (CellsRelated (put k a (bit b))) (storeOne numberCells c a v) (storeOne numberCells d a w)
+pub one-stored : {k : Cells ℕ} {c d : Cells Held} → CellsRelated k c d → {m n : ℕ} → m ≡ n → (a : ℕ) (b : Bool) {v w : ℕ} → Related b v w
+    → Both (CellsRelated (put k a (bit b))) (storeOne numberCells m c a v) (storeOne numberCells n d a w)
 unfolding storeMany
-one-stored h a b r =
+one-stored h e a b r =
     both-require StoreFault (related-storable r)
-    (both-require StoreFault refl (both-require ProphetStore refl (passed (cells-put h a (bit b) (related-bit r)))))
+    (both-require StoreFault refl
+    (both-require ProphetStore refl (passed (cells-put h a (bit b) (record { number = related-bit r; moment = e })))))
 
-pub many-stored : {k c d : Cells ℕ} → CellsRelated k c d → (a : ℕ) (vs : List ℕ)
-    → Both (CellsRelated (cleanMany markCells k a vs)) (storeMany numberCells c a vs) (storeMany numberCells d a vs)
+pub many-stored : {k : Cells ℕ} {c d : Cells Held} → CellsRelated k c d → {m n : ℕ} → m ≡ n → (a : ℕ) (vs : List ℕ)
+    → Both (CellsRelated (cleanMany markCells k a vs)) (storeMany numberCells m c a vs) (storeMany numberCells n d a vs)
 unfolding storeMany cleanMany
-many-stored h a [] = passed h
-many-stored h a (v ∷ vs) =
+many-stored h e a [] = passed h
+many-stored h e a (v ∷ vs) =
     both-require StoreFault refl
-    (both-require StoreFault refl (both-require ProphetStore refl (many-stored (cells-put h a 0 (equal refl)) (suc a) vs)))
+    (both-require StoreFault refl
+    (both-require ProphetStore refl (many-stored (cells-put h a 0 (record { number = equal refl; moment = e })) e (suc a) vs)))
 
 -- operands
 

@@ -7,10 +7,12 @@ use native.Mathlib.Omega.{arith}
 use lib.Dec.{leb, eqb}
 use lib.ListN.{length, length-set, length-append}
 use Rattle.rules.specs.declared.Instruction.{Instruction}
+use Rattle.rules.specs.declared.Held.{Held}
 use Rattle.rules.specs.declared.Refusal.the-variants.{NotInField, NotSmall, AssertFailed, RangeCheckFailed, StoreFault, TapeFault}
 use Rattle.rules.specs.Numbers.{p, choose, bit}
 use Rattle.rules.specs.Field.{isElement, fieldAdd, fieldMul, fieldComplement}
 use Rattle.rules.specs.Results.{pass, require}
+use Rattle.rules.specs.Memory.{numbersOf}
 use Rattle.rules.specs.Cells.{Cells, put, numberCells, markCells}
 use Rattle.rules.specs.Opcodes.{Class, addition, multiplication, equality, small, complement, move, assert, rangeCheck, jump, conditionalJump, call, return, load, store, tapeLoad, tapeStore, contractCall, end, uncovered}
 use Rattle.rules.specs.Operands.{binaryLength, wantsOf, Operands, operands}
@@ -21,6 +23,7 @@ use Rattle.rules.proofs.Laws.Relational.{both-bind, both-require}
 use Rattle.rules.proofs.NonInterference.AlikeStates.{
   Related,
   equal,
+  HeldRelated,
   StatesRelated,
   NextRelated,
   CellsRelated,
@@ -100,7 +103,8 @@ register-written {t} n e r {k} h =
       finish = refl;
     }
 
-cells-written : {t : MarkState markCells} {s u : State numberCells} → StatesRelated t s u → {a b : ℕ} → a ≡ b → {k c d : Cells ℕ} → CellsRelated k c d
+cells-written : {t : MarkState markCells} {s u : State numberCells} → StatesRelated t s u → {a b : ℕ} → a ≡ b
+    → {k : Cells ℕ} {c d : Cells Held} → CellsRelated k c d
     → NextRelated (record { registers = t .registers; cells = k }) (writesCells numberCells s a c) (writesCells numberCells u b d)
 cells-written n e h =
     record {
@@ -274,15 +278,15 @@ module _ (e : Environment) (t : MarkState markCells) (i : Instruction) {s u : St
     where
       stored : r9 numberCells s ≡ r9 numberCells u
           → Both (CellsRelated (put (t .cells) (r9 numberCells s - 1) 0))
-          (storeOne numberCells (s .cells) (r9 numberCells s - 1) (nextPc numberCells s i))
-          (storeOne numberCells (u .cells) (r9 numberCells u - 1) (nextPc numberCells u i))
+          (storeOne numberCells (s .clk) (s .cells) (r9 numberCells s - 1) (nextPc numberCells s i))
+          (storeOne numberCells (u .clk) (u .cells) (r9 numberCells u - 1) (nextPc numberCells u i))
       stored d =
           subst
           (λ r. Both (CellsRelated (put (t .cells) (r9 numberCells s - 1) 0))
-          (storeOne numberCells (s .cells) (r9 numberCells s - 1) (nextPc numberCells s i))
-          (storeOne numberCells (u .cells) (r - 1) (nextPc numberCells u i)))
+          (storeOne numberCells (s .clk) (s .cells) (r9 numberCells s - 1) (nextPc numberCells s i))
+          (storeOne numberCells (u .clk) (u .cells) (r - 1) (nextPc numberCells u i)))
           d
-          (one-stored (n .cells) (r9 numberCells s - 1) false (equal (next-pc n i)))
+          (one-stored (n .cells) (n .clk) (r9 numberCells s - 1) false (equal (next-pc n i)))
 
   pub on-return : (o : Operands) → registerMark (t .registers) 9 ≡ false → Agreed e t return i s u o o
   unfolding readSink marksAfter operate
@@ -294,16 +298,16 @@ module _ (e : Environment) (t : MarkState markCells) (i : Instruction) {s u : St
         next =
             both-bind _ _ (read 1 d) λ a b h.
             both-bind _ _ (read 2 d) λ v w l.
-            passed λ q. register-written n (unmarked q h) 9 l;
+            passed λ q. register-written n (unmarked q (h .number)) 9 (l .number);
       }
     where
       read : (k : ℕ) → r9 numberCells s ≡ r9 numberCells u
-          → Both (Related (cellMark markCells (t .cells) (r9 numberCells s - k)))
+          → Both (HeldRelated (cellMark markCells (t .cells) (r9 numberCells s - k)))
           (readBelow numberCells (s .cells) (r9 numberCells s) k)
           (readBelow numberCells (u .cells) (r9 numberCells u) k)
       read k d =
           subst
-          (λ r. Both (Related (cellMark markCells (t .cells) (r9 numberCells s - k)))
+          (λ r. Both (HeldRelated (cellMark markCells (t .cells) (r9 numberCells s - k)))
           (readBelow numberCells (s .cells) (r9 numberCells s) k)
           (readBelow numberCells (u .cells) r k))
           d
@@ -319,7 +323,7 @@ module _ (e : Environment) (t : MarkState markCells) (i : Instruction) {s u : St
             both-require NotInField refl
             (both-require NotInField refl
             (both-bind _ _ (cell-read (n .cells) (fieldAdd (o .op0) (o .op1))) λ v w r.
-            passed λ k. register-written n (next-pc n i) (o .dst) r));
+            passed λ k. register-written n (next-pc n i) (o .dst) (r .number)));
       }
 
   pub on-store : (o : Operands) → Agreed e t store i s u o o
@@ -332,7 +336,7 @@ module _ (e : Environment) (t : MarkState markCells) (i : Instruction) {s u : St
             both-require NotInField refl
             (both-require NotInField refl
             (both-bind _ _
-            (one-stored (n .cells) (fieldAdd (o .op0) (o .op1)) (registerMark (t .registers) (o .dst)) (registers-get (n .registers) (o .dst)))
+            (one-stored (n .cells) (n .clk) (fieldAdd (o .op0) (o .op1)) (registerMark (t .registers) (o .dst)) (registers-get (n .registers) (o .dst)))
             λ c d r. passed λ k. cells-written n (next-pc n i) r));
       }
 
@@ -352,15 +356,15 @@ module _ (e : Environment) (t : MarkState markCells) (i : Instruction) {s u : St
       vs x = tapeValues (o .op0) (o .op1) x
 
       stored : Both (CellsRelated (cleanMany markCells (t .cells) (o .dst) (vs (s .tape))))
-          (storeMany numberCells (s .cells) (o .dst) (vs (s .tape)))
-          (storeMany numberCells (u .cells) (o .dst) (vs (u .tape)))
+          (storeMany numberCells (s .clk) (s .cells) (o .dst) (vs (s .tape)))
+          (storeMany numberCells (u .clk) (u .cells) (o .dst) (vs (u .tape)))
       stored =
           subst
           (λ x. Both (CellsRelated (cleanMany markCells (t .cells) (o .dst) (vs (s .tape))))
-          (storeMany numberCells (s .cells) (o .dst) (vs (s .tape)))
-          (storeMany numberCells (u .cells) (o .dst) (vs x)))
+          (storeMany numberCells (s .clk) (s .cells) (o .dst) (vs (s .tape)))
+          (storeMany numberCells (u .clk) (u .cells) (o .dst) (vs x)))
           (n .tape)
-          (many-stored (n .cells) (o .dst) (vs (s .tape)))
+          (many-stored (n .cells) (n .clk) (o .dst) (vs (s .tape)))
 
   pub on-tape-store : (o : Operands) → Agreed e t tapeStore i s u o o
   unfolding readSink marksAfter operate
@@ -369,12 +373,12 @@ module _ (e : Environment) (t : MarkState markCells) (i : Instruction) {s u : St
         sinks = refl;
         marks = refl;
         next =
-            both-bind _ _ (span-read (n .cells) (o .op0) (o .op1)) λ vs ws h.
+            both-bind _ _ (span-read (n .cells) (o .op0) (o .op1)) λ hs ks h.
             passed λ k.
-            let a : vs ≡ ws = h k in
+            let a : numbersOf hs ≡ numbersOf ks = ap numbersOf (h k) in
             let b = n .output in
             let c = n .written in
-            tape-written n i (let d = n .tape in cc) (cc) (cc) refl (overlay-longer (s .output ++ vs) (s .written));
+            tape-written n i (let d = n .tape in cc) (cc) (cc) refl (overlay-longer (s .output ++ numbersOf hs) (s .written));
       }
 
   pub on-contract-call : (o : Operands) → Agreed e t contractCall i s u o o
@@ -384,9 +388,9 @@ module _ (e : Environment) (t : MarkState markCells) (i : Instruction) {s u : St
         sinks = refl;
         marks = refl;
         next =
-            both-bind _ _ (span-read (n .cells) (o .op0) 4) λ vs ws h.
+            both-bind _ _ (span-read (n .cells) (o .op0) 4) λ hs ks h.
             passed λ k.
-            let a : vs ≡ ws = h k in
+            let a : numbersOf hs ≡ numbersOf ks = ap numbersOf (h k) in
             tape-written n i (let d = n .tape in cc) refl (n .written) (cc) (omega arith);
       }
 

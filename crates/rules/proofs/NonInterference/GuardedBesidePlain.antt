@@ -4,6 +4,7 @@ use mathlib.Core.Path.{_≡_, refl, ap, _∙_}
 use mathlib.Core.Bool.{Bool, true, false}
 use native.Mathlib.Omega.{arith}
 use lib.Dec.{ltb}
+use Rattle.rules.specs.declared.Held.{Held}
 use Rattle.rules.specs.declared.Refusal.{Refusal}
 use Rattle.rules.specs.declared.Refusal.the-variants.{NoCapacity, ClockEnd}
 use Rattle.rules.specs.declared.Answer.the-variants.{Paused, Refused, MarkedSink}
@@ -22,7 +23,7 @@ paused-not-sink e = let z : _≡_ {A = ℕ} 0 1 = cc in omega arith
 refused-not-sink : (f : Refusal) → Refused f ≡ MarkedSink → ⊥
 refused-not-sink f e = let z : _≡_ {A = ℕ} 0 1 = cc in omega arith
 
-module _ (numberMemory markMemory : Memory ℕ) where
+module _ (numberMemory : Memory Held) (markMemory : Memory ℕ) where
   -- One step: the marked one stops at a sink, or does what the plain one does
   pub data Beside : GuardedResult (GuardedNext numberMemory markMemory) → Result (Next numberMemory) → Type 0 where
     at-sink : {r : Result (Next numberMemory)} → Beside sink r

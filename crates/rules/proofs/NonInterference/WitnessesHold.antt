@@ -10,7 +10,7 @@ use borrow.Author.Tests.{eqb-true}
 use Rattle.rules.specs.declared.Instruction.{Instruction}
 use Rattle.rules.specs.Results.{Result}
 use Rattle.rules.specs.Answers.{Meaning}
-use Rattle.rules.specs.Entry.{Snapshot, GuardedSnapshot, usedAddresses, usedNumbers, usedTape, usedOutput, usedMarks, markedRegisters, markedCells, markedBelow}
+use Rattle.rules.specs.Entry.{Snapshot, GuardedSnapshot, usedAddresses, usedNumbers, usedMoments, usedTape, usedOutput, usedMarks, markedRegisters, markedCells, markedBelow}
 use Rattle.rules.specs.Calls.{Called}
 use Rattle.rules.specs.Encoding.{bytes}
 use Rattle.rules.specs.NonInterference.{MarkedBelow, EqualUnless, Alike, NonInterference}
@@ -35,6 +35,8 @@ use Rattle.rules.specs.Witnesses.{
   usesFactorZero,
   BlankingWitnesses,
   Witnesses,
+  secretSince,
+  MomentWitnesses,
 }
 use Rattle.rules.proofs.Laws.BoolLaws.{false-true, and-left, and-right}
 use Rattle.rules.proofs.Laws.EntryLaws.{markedBelow-at}
@@ -82,9 +84,10 @@ common g =
     let m = s .machine in
     (m .pc ∷ m .clk ∷ m .psp ∷ g .extras .registers ∷ [])
     ∷ (m .«cell_count» ∷ m .«tape_count» ∷ m .«output_count» ∷ [])
-    ∷ (length (s .addresses) ∷ length (s .numbers) ∷ length (g .marks) ∷ length (s .tape) ∷ length (s .output) ∷ [])
+    ∷ (length (s .addresses) ∷ length (s .numbers) ∷ length (s .moments) ∷ length (g .marks) ∷ length (s .tape) ∷ length (s .output) ∷ [])
     ∷ m .«storage_addr»
     ∷ usedAddresses s
+    ∷ usedMoments s
     ∷ usedMarks g
     ∷ usedTape s
     ∷ usedOutput s
@@ -105,13 +108,15 @@ alike g h e ten r c =
       outputCount = number 1 2;
       addressLength = number 2 0;
       numberLength = number 2 1;
-      markLength = number 2 2;
-      tapeLength = number 2 3;
-      outputLength = number 2 4;
+      momentLength = number 2 2;
+      markLength = number 2 3;
+      tapeLength = number 2 4;
+      outputLength = number 2 5;
       addresses = list 4;
-      marks = list 5;
-      tape = list 6;
-      output = list 7;
+      moments = list 5;
+      marks = list 6;
+      tape = list 7;
+      output = list 8;
       numbers = places (markedCells g) (usedNumbers (g .plain)) (usedNumbers (h .plain)) c;
       registerMarks = number 0 3;
       ten = ten;
@@ -198,7 +203,7 @@ beyonds =
 
 beyond-holds : Beyond
 unfolding beyond stores calling
-beyond-holds = record { pauses = witness (words-hold stores 1) beyonds refl refl; addresses = refl; marks = refl }
+beyond-holds = record { pauses = witness (words-hold stores 1) beyonds refl refl; addresses = refl; moments = refl; marks = refl }
 
 -- Blanking with zero
 
@@ -221,6 +226,25 @@ blanking-holds =
       factorZero = record { agree = witness (words-hold usesFactorZero 10) secret-factors refl refl; first = refl; second = refl };
     }
 
+-- Moments
+
+secrets-since : Differing (secretSince 5 7) (secretSince 5 8)
+unfolding secretSince calling
+secrets-since =
+    record {
+      differ = λ e. let z : _≡_ {A = ℕ} 7 8 = ap (λ (g : GuardedSnapshot). getD (g .plain .numbers) 0 0) e in omega arith;
+      alike = alike (secretSince 5 7) (secretSince 5 8) refl (refl, refl) refl refl;
+      below = (below (secretSince 5 7) refl refl, below (secretSince 5 8) refl refl);
+    }
+
+moments-hold : MomentWitnesses
+unfolding secretSince passesOn calling
+moments-hold =
+    record {
+      carried = record { agree = witness (words-hold passesOn 10) secrets-since refl refl; first = refl; second = refl };
+      apart = λ a. let z : _≡_ {A = ℕ} 5 4 = ap (λ l. getD l 0 0) (a .moments) in omega arith;
+    }
+
 pub witnesses : Witnesses
 unfolding secret leaks calling
 witnesses =
@@ -230,4 +254,5 @@ witnesses =
       leaked = witness (words-hold leaks 2) secrets refl refl;
       beyond = beyond-holds;
       blanking = blanking-holds;
+      moments = moments-hold;
     }

@@ -11,6 +11,7 @@ use Rattle.rules.specs.declared.Refusal.the-variants.{BadState}
 use Rattle.rules.specs.declared.Answer.the-variants.{Paused}
 use Rattle.rules.specs.Numbers.{clockEnd, choose}
 use Rattle.rules.specs.Results.{Result, refuse, pass}
+use Rattle.rules.specs.Memory.{numbersOf, momentsOf}
 use Rattle.rules.specs.Cells.{Cells, count, addresses, contents, numberCells, markCells}
 use Rattle.rules.specs.Step.{Environment, State, RunEnd, overlay, run}
 use Rattle.rules.specs.Guarded.{GuardedState, guardedRun}
@@ -27,6 +28,7 @@ use Rattle.rules.proofs.Laws.EntryLaws.{all-at}
 use Rattle.rules.proofs.Laws.AnswerLaws.{refusal-not-paused, paused-answer}
 use Rattle.rules.proofs.Soundness.PlainSoundness.{run-sound}
 use Rattle.rules.proofs.Soundness.GuardedSoundness.{guarded-run-sound}
+use Rattle.rules.proofs.Laws.HeldLaws.{length-part}
 use Rattle.rules.proofs.Soundness.EntrySoundness.{entry-sound, guarded-entry-sound}
 use Rattle.rules.proofs.Resumption.Resuming.{resumable, guarded-resumable}
 use Rattle.rules.proofs.Resumption.Growth.{Grown, run-grows, guarded-run-grows}
@@ -36,7 +38,7 @@ use Rattle.rules.proofs.Resumption.WrittenBehind.{withWritten, Behind, 
 -- What a second call leaves lies over all that the first one left
 
 -- a buffer of the cells, where there are no fewer cells
-covered : {A : Type 0} (f : Cells ℕ → List A) → ((c : Cells ℕ) → length (f c) ≡ count c) → (c d : Cells ℕ) (l : List A) → count c ≤ count d
+covered : {A B : Type 0} (f : Cells A → List B) → ((c : Cells A) → length (f c) ≡ count c) → (c d : Cells A) (l : List B) → count c ≤ count d
     → overlay (f d) (overlay (f c) l) ≡ overlay (f d) l
 covered f n c d l h = overlay-covers (f d) (f c) l (omega (arith, n c, n d))
 
@@ -47,7 +49,8 @@ snapshot-twice s t u v g h =
     record {
       machine = snapshotAfter s u .machine;
       addresses = covered addresses length-addresses (t .cells) (u .cells) (s .addresses) (g .cells) i;
-      numbers = covered contents length-contents (t .cells) (u .cells) (s .numbers) (g .cells) i;
+      numbers = covered (λ c. numbersOf (contents c)) (length-part _) (t .cells) (u .cells) (s .numbers) (g .cells) i;
+      moments = covered (λ c. momentsOf (contents c)) (length-part _) (t .cells) (u .cells) (s .moments) (g .cells) i;
       tape = overlay-covers (u .tape) (t .tape) (s .tape) (g .tape) i;
       output = (overlay-overlay v (t .written) (s .output) ∙ ap (λ l. overlay l (s .output)) (sym h)) i;
     }

@@ -6,8 +6,10 @@ use mathlib.Core.List.{List, [], _∷_, _++_}
 use native.Mathlib.Omega.{arith}
 use lib.ListN.{length, length-append}
 use Rattle.rules.specs.declared.Instruction.{Instruction}
+use Rattle.rules.specs.declared.Held.{Held}
 use Rattle.rules.specs.Numbers.{choose}
 use Rattle.rules.specs.Results.{Result, GuardedResult}
+use Rattle.rules.specs.Memory.{held}
 use Rattle.rules.specs.Cells.{Cells, get, put, count, Rising, numberCells, markCells}
 use Rattle.rules.specs.PlainMap.{isPresent}
 use Rattle.rules.specs.Opcodes.{Class, addition, multiplication, equality, small, complement, move, assert, rangeCheck, jump, conditionalJump, call, return, load, store, tapeLoad, tapeStore, contractCall, end, uncovered, classOf}
@@ -29,25 +31,26 @@ grown-same s = record { cells = omega arith; tape = omega arith }
 pub grown-twice : {s t u : State numberCells} → Grown s t → Grown t u → Grown s u
 grown-twice h k = let a = h .cells in let b = k .cells in let c = h .tape in let d = k .tape in record { cells = omega arith; tape = omega arith }
 
-put-grows : (c : Cells ℕ) (a v : ℕ) → Rising c → count c ≤ count (put c a v)
+put-grows : (c : Cells Held) (a : ℕ) (v : Held) → Rising c → count c ≤ count (put c a v)
 put-grows c a v r = subst (λ n. count c ≤ n) (sym (count-put 0 c a v r)) (go (isPresent (get c a)))
   where
     go : (b : Bool) → count c ≤ choose b (count c) (suc (count c))
     go true = omega arith
     go false = omega arith
 
-store-grows : (n : ℕ) (c : Cells ℕ) (a : ℕ) (vs : List ℕ) → Rising c → n ≤ count c → Passing (λ d. n ≤ count d) (storeMany numberCells c a vs)
+store-grows : (n moment : ℕ) (c : Cells Held) (a : ℕ) (vs : List ℕ) → Rising c → n ≤ count c
+    → Passing (λ d. n ≤ count d) (storeMany numberCells moment c a vs)
 unfolding storeMany
-store-grows n c a [] r h = passed h
-store-grows n c a (v ∷ vs) r h =
+store-grows n m c a [] r h = passed h
+store-grows n m c a (v ∷ vs) r h =
     passing-require _ λ x.
     passing-require _ λ y.
     passing-require _ λ z.
-    store-grows n (put c a v) (suc a) vs (rising-put c a v r) (omega (arith, put-grows c a v r))
+    store-grows n m (put c a (held v m)) (suc a) vs (rising-put c a (held v m) r) (omega (arith, put-grows c a (held v m) r))
 
 module _ (e : Environment) (i : Instruction) (s : State numberCells) (o : Operands) (r : Rising (s .cells)) where
-  stored : (a : ℕ) (vs : List ℕ) → Passing (λ d. count (s .cells) ≤ count d) (storeMany numberCells (s .cells) a vs)
-  stored a vs = store-grows (count (s .cells)) (s .cells) a vs r (omega arith)
+  stored : (a : ℕ) (vs : List ℕ) → Passing (λ d. count (s .cells) ≤ count d) (storeMany numberCells (s .clk) (s .cells) a vs)
+  stored a vs = store-grows (count (s .cells)) (s .clk) (s .cells) a vs r (omega arith)
 
   le : (n : ℕ) → n ≤ n
   le n = omega arith
@@ -72,8 +75,8 @@ module _ (e : Environment) (i : Instruction) (s : State numberCells) (o : Operan
   operate-grows load = passing-require _ λ a. passing-require _ λ b. passing-any _ _ λ v. passed (record { cells = le _; tape = le _ })
   operate-grows store = passing-require _ λ a. passing-require _ λ b. passing-bind _ (stored _ _) λ c k. passed (record { cells = k; tape = le _ })
   operate-grows tapeLoad = passing-require _ λ a. passing-require _ λ b. passing-bind _ (stored _ _) λ c k. passed (record { cells = k; tape = le _ })
-  operate-grows tapeStore = passing-any _ _ λ vs. passed (record { cells = le _; tape = longer vs })
-  operate-grows contractCall = passing-any _ _ λ vs. passed (record { cells = le _; tape = longer _ })
+  operate-grows tapeStore = passing-any _ _ λ hs. passed (record { cells = le _; tape = longer _ })
+  operate-grows contractCall = passing-any _ _ λ hs. passed (record { cells = le _; tape = longer _ })
   operate-grows end = passed (record { cells = le _; tape = le _ })
   operate-grows uncovered = passing-refused
 

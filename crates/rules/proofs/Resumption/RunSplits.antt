@@ -9,6 +9,7 @@ use borrow.Author.Tests.{ltb-true}
 use Rattle.rules.specs.declared.Refusal.{Refusal}
 use Rattle.rules.specs.declared.Refusal.the-variants.{ClockEnd}
 use Rattle.rules.specs.declared.Answer.the-variants.{Ended, Calling, DelegateCalling, Paused, Refused, MarkedSink}
+use Rattle.rules.specs.declared.Held.{Held}
 use Rattle.rules.specs.Numbers.{clockEnd}
 use Rattle.rules.specs.Results.{Result, refuse, pass, GuardedResult, refuses, sink, passes}
 use Rattle.rules.specs.Memory.{Memory}
@@ -71,7 +72,7 @@ module _ {S : Type 0} where
 
 -- Whole runs
 
-module _ (numberMemory markMemory : Memory ℕ) (e : Environment) where
+module _ (numberMemory : Memory Held) (markMemory : Memory ℕ) (e : Environment) where
   step-splits : (s : State numberMemory) (x : Result (Next numberMemory)) (k whole rest : State numberMemory → RunEnd (State numberMemory))
       → ((s : State numberMemory) → k s .answer ≡ Paused → whole s ≡ joined (k s) (rest (k s .state)))
       → onStep numberMemory s x k .answer ≡ Paused

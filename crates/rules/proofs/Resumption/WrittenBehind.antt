@@ -5,13 +5,15 @@ use mathlib.Core.List.{List, _++_}
 use Rattle.rules.specs.declared.Instruction.{Instruction}
 use Rattle.rules.specs.declared.Refusal.the-variants.{NotInField, NotSmall, AssertFailed, RangeCheckFailed, TapeFault, StoreFault, NoCapacity}
 use Rattle.rules.specs.Results.{Result, GuardedResult}
+use Rattle.rules.specs.Memory.{numbersOf}
 use Rattle.rules.specs.Cells.{numberCells, markCells}
 use Rattle.rules.specs.Opcodes.{Class, addition, multiplication, equality, small, complement, move, assert, rangeCheck, jump, conditionalJump, call, return, load, store, tapeLoad, tapeStore, contractCall, end, uncovered, classOf}
 use Rattle.rules.specs.Operands.{Operands}
 use Rattle.rules.specs.Step.{Environment, State, Next, overlay, operate, capacity, step, RunEnd, onStep, run}
-use Rattle.rules.specs.Guarded.{MarkState, readSink, marksAfter, GuardedState, GuardedNext, guardedRest, guardedStep, onGuardedStep, guardedRun}
+use Rattle.rules.specs.Guarded.{MarkState, GuardedState, GuardedNext, guardedRest, guardedStep, onGuardedStep, guardedRun}
 use Rattle.rules.specs.Relations.{Both, both-refused, passed, BothGuarded, refused-alike, sink-alike, passed-alike, BothRan}
 use Rattle.rules.proofs.Laws.OverlayLaws.{overlay-overlay}
+use Rattle.rules.proofs.Laws.MarkLaws.{sinks-look, marks-look}
 use Rattle.rules.proofs.Laws.Relational.{both-bind, both-bind-equal, both-require, both-after, both-after-equal, both-guard, both-finish}
 
 abbrev pub withWritten : State numberCells → List ℕ → State numberCells
@@ -53,56 +55,12 @@ module _ (w : List ℕ) (e : Environment) (i : Instruction) (s : State numberCel
   operate-behind store = both-require NotInField refl (both-require NotInField refl (both-bind-equal _ _ refl λ c. passed (next-behind v h)))
   operate-behind tapeLoad = both-require TapeFault refl (both-require StoreFault refl (both-bind-equal _ _ refl λ c. passed (next-behind v h)))
   operate-behind tapeStore =
-      both-bind-equal _ _ refl λ vs.
-      let out = s .output ++ vs in
+      both-bind-equal _ _ refl λ hs.
+      let out = s .output ++ numbersOf hs in
       passed (next-behind (overlay out v) (ap (overlay out) h ∙ overlay-overlay out v w))
-  operate-behind contractCall = both-bind-equal _ _ refl λ vs. passed (next-behind v h)
+  operate-behind contractCall = both-bind-equal _ _ refl λ hs. passed (next-behind v h)
   operate-behind end = passed (next-behind v h)
   operate-behind uncovered = both-refused
-
-  sinks-behind : (t : MarkState markCells) (c : Class) → readSink numberCells markCells t c i s o ≡ readSink numberCells markCells t c i (withWritten s v) o
-  unfolding readSink
-  sinks-behind t addition = refl
-  sinks-behind t multiplication = refl
-  sinks-behind t (equality f) = refl
-  sinks-behind t (small f) = refl
-  sinks-behind t complement = refl
-  sinks-behind t move = refl
-  sinks-behind t assert = refl
-  sinks-behind t rangeCheck = refl
-  sinks-behind t jump = refl
-  sinks-behind t conditionalJump = refl
-  sinks-behind t call = refl
-  sinks-behind t return = refl
-  sinks-behind t load = refl
-  sinks-behind t store = refl
-  sinks-behind t tapeLoad = refl
-  sinks-behind t tapeStore = refl
-  sinks-behind t contractCall = refl
-  sinks-behind t end = refl
-  sinks-behind t uncovered = refl
-
-  marks-behind : (t : MarkState markCells) (c : Class) → marksAfter numberCells markCells t c i s o ≡ marksAfter numberCells markCells t c i (withWritten s v) o
-  unfolding marksAfter
-  marks-behind t addition = refl
-  marks-behind t multiplication = refl
-  marks-behind t (equality f) = refl
-  marks-behind t (small f) = refl
-  marks-behind t complement = refl
-  marks-behind t move = refl
-  marks-behind t assert = refl
-  marks-behind t rangeCheck = refl
-  marks-behind t jump = refl
-  marks-behind t conditionalJump = refl
-  marks-behind t call = refl
-  marks-behind t return = refl
-  marks-behind t load = refl
-  marks-behind t store = refl
-  marks-behind t tapeLoad = refl
-  marks-behind t tapeStore = refl
-  marks-behind t contractCall = refl
-  marks-behind t end = refl
-  marks-behind t uncovered = refl
 
 capacity-behind : (w : List ℕ) (e : Environment) {n m : Next numberCells} → NextBehind w n m
     → Both (NextBehind w) (capacity numberCells e n) (capacity numberCells e m)
@@ -150,9 +108,9 @@ guarded-step-behind w e (guarded-behind {u = u} (behind {s} v h)) =
     both-after-equal _ _ refl λ o.
     both-guard refl
     (both-after _ _ (operate-behind w e i s v o h (classOf (i .opcode))) λ n m k.
-    both-guard (sinks-behind w e i s v o h u (classOf (i .opcode)))
+    both-guard (sinks-look u (classOf (i .opcode)) i s o (withWritten s v) refl refl)
     (both-after _ _ (capacity-behind w e k) λ n m k.
-    rw (← (marks-behind w e i s v o h u (classOf (i .opcode)))) (passed-alike (guarded-next-behind k))))
+    rw (← (marks-look u (classOf (i .opcode)) i s o (withWritten s v) refl refl)) (passed-alike (guarded-next-behind k))))
 
 on-guarded-step-behind : (w : List ℕ) {q r : GuardedState numberCells markCells} {x y : GuardedResult (GuardedNext numberCells markCells)}
     (k : GuardedState numberCells markCells → RunEnd (GuardedState numberCells markCells)) → GuardedBehind w q r → BothGuarded (GuardedNextBehind w) x y

@@ -8,6 +8,7 @@ use lib.Dec.{eqb}
 use lib.ListN.{length, getD}
 use borrow.Author.Tests.{eq-eqb}
 use Rattle.rules.specs.declared.Instruction.{Instruction}
+use Rattle.rules.specs.declared.Held.{Held}
 use Rattle.rules.specs.Numbers.{p, choose}
 use Rattle.rules.specs.Results.{pass, GuardedResult, passes}
 use Rattle.rules.specs.Memory.{present}
@@ -22,7 +23,7 @@ use Rattle.rules.proofs.Laws.BoolLaws.{false-true, bit-one}
 use Rattle.rules.proofs.Laws.CellLaws.{get-put, other-address}
 use Rattle.rules.proofs.Laws.Passing.{passing-at, PassingGuarded, refused-guarded, sink-guarded, passed-guarded, passing-after, passing-after-any, passing-guard, finish-keeps}
 use Rattle.rules.proofs.Soundness.PlainSoundness.{operate-keeps, capacity-sound, output-within, step-sound, run-sound}
-use Rattle.rules.proofs.NonInterference.AlikeStates.{Related, equal, hidden, RegistersRelated, CellsRelated, registers-get, cell-read}
+use Rattle.rules.proofs.NonInterference.AlikeStates.{Related, equal, hidden, RegistersRelated, HeldRelated, CellsRelated, registers-get, cell-read}
 use Rattle.rules.proofs.NonInterference.AlikeRuns.{GuardedRelated, run-agrees}
 
 -- A sound state beside itself
@@ -41,8 +42,8 @@ registers-beside [] (v ∷ r) n h = absurd (omega arith)
 registers-beside (b ∷ l) [] n h = absurd (omega arith)
 registers-beside (b ∷ l) (v ∷ r) n h = RegistersRelated.cons (beside-itself b v (h 0)) (registers-beside l r (omega arith) (λ i. h (suc i)))
 
-cells-beside : (n : ℕ) (k c : Cells ℕ) → RisingFrom n c → addresses k ≡ addresses c
-    → ((a v : ℕ) → cellMark markCells k a ≡ true → get c a ≡ present v → v < p) → CellsRelated k c c
+cells-beside : (n : ℕ) (k : Cells ℕ) (c : Cells Held) → RisingFrom n c → addresses k ≡ addresses c
+    → ((a : ℕ) (v : Held) → cellMark markCells k a ≡ true → get c a ≡ present v → v .number < p) → CellsRelated k c c
 cells-beside n none none r e h = CellsRelated.nil
 cells-beside n none (cell b v c) r e h = absurd (let z : _≡_ {A = ℕ} 0 1 = cc in omega arith)
 cells-beside n (cell a t k) none r e h = absurd (let z : _≡_ {A = ℕ} 0 1 = cc in omega arith)
@@ -52,17 +53,17 @@ cells-beside n (cell a t k) (cell b v c) r e h =
     go b d (r .1) h (λ x. cells-beside (suc b) k c (r .1) f x)
   where
     go : (b : ℕ) → b ≡ a → RisingFrom (suc b) c
-        → ((x w : ℕ) → cellMark markCells (cell a t k) x ≡ true → get (cell b v c) x ≡ present w → w < p)
-        → (((x w : ℕ) → cellMark markCells k x ≡ true → get c x ≡ present w → w < p) → CellsRelated k c c)
+        → ((x : ℕ) (w : Held) → cellMark markCells (cell a t k) x ≡ true → get (cell b v c) x ≡ present w → w .number < p)
+        → (((x : ℕ) (w : Held) → cellMark markCells k x ≡ true → get c x ≡ present w → w .number < p) → CellsRelated k c c)
         → CellsRelated (cell a t k) (cell b v c) (cell b v c)
     go b d r h rest =
         subst (λ x. CellsRelated (cell x t k) (cell b v c) (cell b v c)) d
-        (CellsRelated.cons (beside-itself (eqb t 1) v head) (rest tail))
+        (CellsRelated.cons (record { number = beside-itself (eqb t 1) (v .number) head; moment = refl }) (rest tail))
       where
-        head : eqb t 1 ≡ true → v < p
+        head : eqb t 1 ≡ true → v .number < p
         head f = h b v (rw (eq-eqb a b (sym d)) f) (rw (eq-eqb b b refl))
 
-        tail : (x w : ℕ) → cellMark markCells k x ≡ true → get c x ≡ present w → w < p
+        tail : (x : ℕ) (w : Held) → cellMark markCells k x ≡ true → get c x ≡ present w → w .number < p
         tail x w f g =
             let o : eqb b x ≡ false = other-address b c x w r g in
             let u : eqb a x ≡ false = ap (λ y. eqb y x) (sym d) ∙ o in
@@ -86,15 +87,16 @@ sound-beside {e} {q} h =
       };
     }
 
-beside-addresses : {k c d : Cells ℕ} → CellsRelated k c d → addresses k ≡ addresses c
+beside-addresses : {k : Cells ℕ} {c d : Cells Held} → CellsRelated k c d → addresses k ≡ addresses c
 beside-addresses CellsRelated.nil = refl
 beside-addresses (CellsRelated.cons {a = a} h r) = ap (_∷_ a) (beside-addresses r)
 
-beside-cell : {k c : Cells ℕ} → CellsRelated k c c → (a v : ℕ) → cellMark markCells k a ≡ true → get c a ≡ present v → v < p
-beside-cell {k} h a v t e = go (subst (λ x. Both (Related (cellMark markCells k a)) (contentValue numberCells x) (contentValue numberCells x)) e (cell-read h a))
+beside-cell : {k : Cells ℕ} {c : Cells Held} → CellsRelated k c c → (a : ℕ) (v : Held) → cellMark markCells k a ≡ true → get c a ≡ present v
+    → v .number < p
+beside-cell {k} h a v t e = go (subst (λ x. Both (HeldRelated (cellMark markCells k a)) (contentValue numberCells x) (contentValue numberCells x)) e (cell-read h a))
   where
-    go : {v : ℕ} → Both (Related (cellMark markCells k a)) (pass v) (pass v) → v < p
-    go (passed r) = below r t
+    go : {v : Held} → Both (HeldRelated (cellMark markCells k a)) (pass v) (pass v) → v .number < p
+    go (passed r) = below (r .number) t
 
 -- Marks are 0 or 1
 

@@ -8,9 +8,10 @@ use lib.Dec.{leb, eqb}
 use lib.ListN.{length, take, length-set, length-take}
 use borrow.Author.Tests.{ltb-true, leb-true, eqb-true}
 use Rattle.rules.specs.declared.Instruction.{Instruction}
+use Rattle.rules.specs.declared.Held.{Held}
 use Rattle.rules.specs.Numbers.{p, heapEnd, choose}
 use Rattle.rules.specs.Results.{Result}
-use Rattle.rules.specs.Memory.{present}
+use Rattle.rules.specs.Memory.{present, held, numbersOf}
 use Rattle.rules.specs.Cells.{Cells, get, put, count, numberCells}
 use Rattle.rules.specs.Opcodes.{Class, addition, multiplication, equality, small, complement, move, assert, rangeCheck, jump, conditionalJump, call, return, load, store, tapeLoad, tapeStore, contractCall, end, uncovered, classOf}
 use Rattle.rules.specs.Operands.{Operands}
@@ -23,23 +24,29 @@ use Rattle.rules.proofs.Laws.OverlayLaws.{used-overlay, length-overlay-
 
 -- Cells
 
-pub sound-put : {c : Cells ℕ} {a v : ℕ} → a < heapEnd → v ≤ p → SoundCells c → SoundCells (put c a v)
-sound-put {c} {a} {v} l u h =
+-- a number that is stored at clk
+sound-put : {clk a v : ℕ} {c : Cells Held} → a < heapEnd → v ≤ p → SoundCells clk c → SoundCells clk (put c a (held v clk))
+sound-put {clk} {a} {v} {c} l u h =
     record {
-      rising = rising-put c a v (h .rising);
-      inHeap = λ x w e. in-heap x w (eqb a x) refl (sym (get-put c a v x) ∙ e);
-      storable = λ x w e. storable x w (eqb a x) (sym (get-put c a v x) ∙ e);
+      rising = rising-put c a (held v clk) (h .rising);
+      inHeap = λ x w e. in-heap x w (eqb a x) refl (sym (get-put c a (held v clk) x) ∙ e);
+      storable = λ x w e. storable x w (eqb a x) (sym (get-put c a (held v clk) x) ∙ e);
+      notLater = λ x w e. not-later x w (eqb a x) (sym (get-put c a (held v clk) x) ∙ e);
     }
   where
-    in-heap : (x w : ℕ) (t : Bool) → eqb a x ≡ t → choose t (present v) (get c x) ≡ present w → x < heapEnd
+    in-heap : (x : ℕ) (w : Held) (t : Bool) → eqb a x ≡ t → choose t (present (held v clk)) (get c x) ≡ present w → x < heapEnd
     in-heap x w true f e = subst (λ y. y < heapEnd) (eqb-true a x f) l
     in-heap x w false f e = h .inHeap x w e
 
-    storable : (x w : ℕ) (t : Bool) → choose t (present v) (get c x) ≡ present w → w ≤ p
-    storable x w true e = let z : v ≡ w = cc in subst (λ y. y ≤ p) z u
+    storable : (x : ℕ) (w : Held) (t : Bool) → choose t (present (held v clk)) (get c x) ≡ present w → w .number ≤ p
+    storable x w true e = let z : held v clk ≡ w = cc in subst (λ y. y .number ≤ p) z u
     storable x w false e = h .storable x w e
 
-pub sound-store : {c : Cells ℕ} → SoundCells c → (a : ℕ) (vs : List ℕ) → Passing SoundCells (storeMany numberCells c a vs)
+    not-later : (x : ℕ) (w : Held) (t : Bool) → choose t (present (held v clk)) (get c x) ≡ present w → w .moment ≤ clk
+    not-later x w true e = let z : held v clk ≡ w = cc in subst (λ y. y .moment ≤ clk) z (omega arith)
+    not-later x w false e = h .notLater x w e
+
+sound-store : {clk : ℕ} {c : Cells Held} → SoundCells clk c → (a : ℕ) (vs : List ℕ) → Passing (SoundCells clk) (storeMany numberCells clk c a vs)
 unfolding storeMany
 sound-store h a [] = passed h
 sound-store h a (v ∷ vs) =
@@ -48,20 +55,30 @@ sound-store h a (v ∷ vs) =
     passing-require _ λ l.
     sound-store (sound-put (ltb-true _ _ l) (leb-true _ _ u) h) (suc a) vs
 
+-- one step later
+sound-later : {clk : ℕ} {c : Cells Held} → SoundCells clk c → SoundCells (suc clk) c
+sound-later {clk} h =
+    record { rising = h .rising; inHeap = h .inHeap; storable = h .storable; notLater = λ a w e. let l : w .moment ≤ clk = h .notLater a w e in omega arith }
+
 -- what a step keeps before the test of the capacities
 pub record Kept (e : Environment) (s : State numberCells) : Type 0 where
   pub ten : length (s .registers) ≡ 10
-  pub cells : SoundCells (s .cells)
+  pub cells : SoundCells (s .clk) (s .cells)
   pub writtenFits : length (s .output) ≤ e .outputCapacity → length (s .written) ≤ e .outputCapacity
   pub first : take (length (s .output)) (s .written) ≡ s .output
 
 module _ (e : Environment) (i : Instruction) (s : State numberCells) (o : Operands) (h : Sound e s) where
   register-kept : (pc r v : ℕ) → Kept e (writesRegister numberCells s pc r v .state)
   register-kept pc r v =
-      record { ten = length-set (s .registers) r v ∙ h .ten; cells = h .cells; writtenFits = λ _. h .writtenFits; first = h .first }
+      record {
+        ten = length-set (s .registers) r v ∙ h .ten;
+        cells = sound-later (h .cells);
+        writtenFits = λ _. h .writtenFits;
+        first = h .first;
+      }
 
-  cells-kept : (pc : ℕ) (c : Cells ℕ) → SoundCells c → Kept e (writesCells numberCells s pc c .state)
-  cells-kept pc c k = record { ten = h .ten; cells = k; writtenFits = λ _. h .writtenFits; first = h .first }
+  cells-kept : (pc : ℕ) (c : Cells Held) → SoundCells (s .clk) c → Kept e (writesCells numberCells s pc c .state)
+  cells-kept pc c k = record { ten = h .ten; cells = sound-later k; writtenFits = λ _. h .writtenFits; first = h .first }
 
   pub operate-keeps : (c : Class) → Passing (λ n. Kept e (n .state)) (operate numberCells e c i s o)
   unfolding operate
@@ -83,17 +100,18 @@ module _ (e : Environment) (i : Instruction) (s : State numberCells) (o : Operan
   operate-keeps tapeLoad =
       passing-require _ λ a. passing-require _ λ b. passing-bind _ (sound-store (h .cells) _ _) λ c k. passed (cells-kept _ c k)
   operate-keeps tapeStore =
-      passing-any _ _ λ vs.
+      passing-any _ _ λ hs.
+      let vs = numbersOf hs in
       passed
       (record {
         ten = h .ten;
-        cells = h .cells;
+        cells = sound-later (h .cells);
         writtenFits = λ l. length-overlay-le (s .output ++ vs) (s .written) (e .outputCapacity) l (h .writtenFits);
         first = used-overlay (s .output ++ vs) (s .written);
       })
   operate-keeps contractCall =
-      passing-any _ _ λ vs. passed (record { ten = h .ten; cells = h .cells; writtenFits = λ _. h .writtenFits; first = refl })
-  operate-keeps end = passed (record { ten = h .ten; cells = h .cells; writtenFits = λ _. h .writtenFits; first = h .first })
+      passing-any _ _ λ hs. passed (record { ten = h .ten; cells = sound-later (h .cells); writtenFits = λ _. h .writtenFits; first = refl })
+  operate-keeps end = passed (record { ten = h .ten; cells = sound-later (h .cells); writtenFits = λ _. h .writtenFits; first = h .first })
   operate-keeps uncovered = passing-refused
 
 pub capacity-sound : (e : Environment) (n : Next numberCells) → Kept e (n .state) → Passing (λ n. Sound e (n .state)) (capacity numberCells e n)
