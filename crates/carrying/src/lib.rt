@@ -9,13 +9,13 @@ use rules::Answer;
 use rules::Marks;
 ghost use mathlib.Core.Path.{_≡_};
 ghost use mathlib.Core.List.{_++_};
-ghost use Prim.Native.Nat.{ℕ, _+_, _≤_, _<_};
+ghost use Prim.Native.Nat.{_+_, _≤_, _<_};
 ghost use lib.ListN.{length, take, drop};
 ghost use Rattle.rules.specs.Numbers.{heapEnd, marksEnd};
 ghost use Rattle.rules.specs.Cells as Cells;
 ghost use Rattle.rules.specs.Step.{overlay};
 ghost use Rattle.rules.specs.Guarded.{productMark, cleanMany};
-ghost use Rattle.hardware.specs.Buffers.{cellsOf, putMany, Ordered, Holding};
+ghost use Rattle.hardware.specs.Buffers.{cellsOf, markCellsOf, putMany, Ordered, Holding};
 ghost use Rattle.effects.specs.Effects.{meant, Placed};
 ghost use Rattle.effects.specs.Carrying.{part, callValues};
 ghost use Rattle.carrying.specs.Cores.{coreOf};
@@ -73,29 +73,33 @@ fn product_marks_after(
     mode.extras
 }
 
-// Tape values to cells; how many cells are used afterwards.
+// Tape values to cells, all at one moment; how many cells are used afterwards.
 fn load_tape(
     guarded: bool,
     count: usize,
     from: usize,
     n: usize,
     address: u64,
+    moment: u64,
     addresses: &mut [u64],
     numbers: &mut [u64],
+    moments: &mut [u64],
     marks: &mut [u64],
     tape: &[u64],
 ) -> usize
-    requires { ⌜ Ordered guarded count (now addresses) (now numbers) (now marks) ⌝ }
+    requires { ⌜ Ordered guarded count (now addresses) (now numbers) (now moments) (now marks) ⌝ }
     requires { ⌜ from + n ≤ length (now tape) ⌝ }
     requires { ⌜ (0 < n → address + n ≤ heapEnd) ⌝ }
-    requires { ⌜ Cells.count (putMany (cellsOf count (now addresses) (now numbers)) address (part from n (now tape)))
+    requires { ⌜ Cells.count (putMany moment (cellsOf count (now addresses) (now numbers) (now moments)) address (part from n (now tape)))
         ≤ length (now addresses) ⌝ }
     ensures { λ r. ⌜ Holding guarded
-        (putMany (cellsOf count (now (addresses .entry)) (now (numbers .entry))) address (part from n (now (tape .entry))))
-        (cleanMany Cells.markCells (cellsOf count (now (addresses .entry)) (now (marks .entry))) address (part from n (now (tape .entry))))
+        (putMany moment (cellsOf count (now (addresses .entry)) (now (numbers .entry)) (now (moments .entry))) address
+        (part from n (now (tape .entry))))
+        (cleanMany Cells.markCells (markCellsOf count (now (addresses .entry)) (now (marks .entry))) address
+        (part from n (now (tape .entry))))
         r
-        (now (addresses .entry)) (now (numbers .entry)) (now (marks .entry))
-        (now (addresses .exit)) (now (numbers .exit)) (now (marks .exit)) ⌝ }
+        (now (addresses .entry)) (now (numbers .entry)) (now (moments .entry)) (now (marks .entry))
+        (now (addresses .exit)) (now (numbers .exit)) (now (moments .exit)) (now (marks .exit)) ⌝ }
 {
     let end = from + n;
     storing::cells::store_many(
@@ -103,8 +107,10 @@ fn load_tape(
         count,
         address,
         &tape[from..end],
+        moment,
         addresses,
         numbers,
+        moments,
         marks,
     )
 }
@@ -153,17 +159,19 @@ fn call_contract(
 }
 
 // Carries an effect out: registers, which are the first of the values, and buffers are changed in place, the rest is handed back. `mark`
-// is that of the registers that the effect's number is made of. clk is not looked at: 0 stands for it in what is required, and what is
-// promised holds for any.
+// is that of the registers that the effect's number is made of; clk, which is that before the step, is the moment of every cell that it
+// writes.
 pub fn carry_out(
     mode: Mode,
     effect: Effect,
     mark: bool,
     pc: u64,
+    clk: u64,
     storage_addr: [u64; 4],
     counts: Counts,
     addresses: &mut [u64],
     numbers: &mut [u64],
+    moments: &mut [u64],
     marks: &mut [u64],
     tape: &mut [u64],
     output: &mut [u64],
@@ -172,16 +180,20 @@ pub fn carry_out(
     requires { ⌜ 10 ≤ length (now values) ⌝ }
     requires { ⌜ Placed (take (counts .cells) (now addresses)) effect ⌝ }
     requires { ⌜ Carriable (meant mark effect)
-        (coreOf mode (take 10 (now values)) pc 0 counts (now addresses) (now numbers) (now marks) (now tape) (now output)) ⌝ }
-    ensures { λ r. ⌜ ((clk : ℕ) → CarriedOut «storage_addr» (meant mark effect)
+        (coreOf mode (take 10 (now values)) pc clk counts
+        (now addresses) (now numbers) (now moments) (now marks) (now tape) (now output)) ⌝ }
+    ensures { λ r. ⌜ CarriedOut «storage_addr» (meant mark effect)
         (coreOf mode (take 10 (now (values .entry))) pc clk counts
-        (now (addresses .entry)) (now (numbers .entry)) (now (marks .entry)) (now (tape .entry)) (now (output .entry)))
+        (now (addresses .entry)) (now (numbers .entry)) (now (moments .entry)) (now (marks .entry))
+        (now (tape .entry)) (now (output .entry)))
         (r .finish)
         (coreAfter mode r (clkAfter (r .finish) clk) (take 10 (now (values .exit)))
-        (now (addresses .exit)) (now (numbers .exit)) (now (marks .exit)) (now (tape .exit)) (now (output .exit)))) ⌝ }
+        (now (addresses .exit)) (now (numbers .exit)) (now (moments .exit)) (now (marks .exit))
+        (now (tape .exit)) (now (output .exit))) ⌝ }
     ensures { λ _. ⌜ (length (now (values .exit)) ≡ length (now (values .entry)))
         × (drop 10 (now (values .exit)) ≡ drop 10 (now (values .entry))) ⌝ }
 {
+    let moment = clk;
     let extras = mode.extras;
     let kind = effect.kind;
     let place = effect.place;
@@ -216,7 +228,16 @@ pub fn carry_out(
             }
         }
         EffectKind::StoreAt => {
-            storing::cells::write_at(mode.guarded, place, effect.number, mark, numbers, marks);
+            storing::cells::write_at(
+                mode.guarded,
+                place,
+                effect.number,
+                moment,
+                mark,
+                numbers,
+                moments,
+                marks,
+            );
             Stepped {
                 pc: next,
                 counts,
@@ -231,9 +252,11 @@ pub fn carry_out(
                 place,
                 effect.address,
                 effect.number,
+                moment,
                 mark,
                 addresses,
                 numbers,
+                moments,
                 marks,
             );
             let cells = counts.cells + 1;
@@ -261,8 +284,10 @@ pub fn carry_out(
                 place,
                 count,
                 effect.address,
+                moment,
                 addresses,
                 numbers,
+                moments,
                 marks,
                 tape,
             );

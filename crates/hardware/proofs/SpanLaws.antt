@@ -9,9 +9,10 @@ use lib.ListN.{length, getD, take, drop}
 use lib.Seq.{drop-cons}
 use borrow.Author.Tests.{lt-ltb, le-ltb, eqb-true, eq-eqb, ne-eqb}
 use Rattle.rules.specs.declared.Refusal.the-variants.{CellAbsent}
+use Rattle.rules.specs.declared.Held.{Held}
 use Rattle.rules.specs.Numbers.{choose}
 use Rattle.rules.specs.Results.{refuse, pass, bind}
-use Rattle.rules.specs.Memory.{Content, absent, present}
+use Rattle.rules.specs.Memory.{Content, absent, present, held}
 use Rattle.rules.specs.Cells.{Cells, none, cell, get, count, addresses, contents, numberCells, markCells}
 use Rattle.rules.specs.PlainMap.{isPresent}
 use Rattle.rules.specs.Step.{readMany}
@@ -41,13 +42,13 @@ absent-get {A} c a e = go (get c a) (present-has c a ∙ e)
     go (present v) e = absurd (false-true (sym e))
 
 -- what is present stands at the address's rank
-pub present-get : (n : ℕ) (c : Cells ℕ) (a : ℕ) → risingFrom n (addresses c) ≡ true → has (addresses c) a ≡ true
-    → get c a ≡ present (getD (contents c) (rank (addresses c) a) 0)
-present-get n none a r h = absurd (false-true h)
-present-get n (cell b w c) a r h = go (present-get (suc b) c a (rising-rest n b (addresses c) r)) (eqb b a) refl h
+pub present-get : {A : Type 0} (d : A) (n : ℕ) (c : Cells A) (a : ℕ) → risingFrom n (addresses c) ≡ true → has (addresses c) a ≡ true
+    → get c a ≡ present (getD (contents c) (rank (addresses c) a) d)
+present-get d n none a r h = absurd (false-true h)
+present-get d n (cell b w c) a r h = go (present-get d (suc b) c a (rising-rest n b (addresses c) r)) (eqb b a) refl h
   where
-    go : (has (addresses c) a ≡ true → get c a ≡ present (getD (contents c) (rank (addresses c) a) 0)) → (t : Bool) → eqb b a ≡ t
-        → (t || has (addresses c) a) ≡ true → choose t (present w) (get c a) ≡ present (getD (w ∷ contents c) (rank (b ∷ addresses c) a) 0)
+    go : (has (addresses c) a ≡ true → get c a ≡ present (getD (contents c) (rank (addresses c) a) d)) → (t : Bool) → eqb b a ≡ t
+        → (t || has (addresses c) a) ≡ true → choose t (present w) (get c a) ≡ present (getD (w ∷ contents c) (rank (b ∷ addresses c) a) d)
     go k true e h = let q : b ≡ a = eqb-true b a e in rw (le-ltb b a (omega arith))
     go k false e h =
         let i = has-rank (suc b) (addresses c) a (rising-rest n b (addresses c) r) h in
@@ -57,14 +58,14 @@ present-get n (cell b w c) a r h = go (present-get (suc b) c a (rising-rest n b 
 
 -- A span
 
-module _ (c : Cells ℕ) (r : risingFrom 0 (addresses c) ≡ true) where
+module _ {A : Type 0} (c : Cells A) (r : risingFrom 0 (addresses c) ≡ true) where
   -- the contents from a present cell on
-  contents-from : (a : ℕ) → has (addresses c) a ≡ true
-      → drop (rank (addresses c) a) (contents c) ≡ getD (contents c) (rank (addresses c) a) 0 ∷ drop (rank (addresses c) (suc a)) (contents c)
-  contents-from a h =
+  contents-from : (d : A) (a : ℕ) → has (addresses c) a ≡ true
+      → drop (rank (addresses c) a) (contents c) ≡ getD (contents c) (rank (addresses c) a) d ∷ drop (rank (addresses c) (suc a)) (contents c)
+  contents-from d a h =
       let i : rank (addresses c) a < length (addresses c) = has-rank 0 (addresses c) a r h .0 in
       let j : length (addresses c) ≡ length (contents c) = length-addresses c ∙ sym (length-contents c) in
-      rw (rank-next 0 (addresses c) a r, h) (drop-cons (contents c) (rank (addresses c) a) 0 (omega arith))
+      rw (rank-next 0 (addresses c) a r, h) (drop-cons (contents c) (rank (addresses c) a) d (omega arith))
 
   pub span-within : (a n : ℕ) → hasAll (addresses c) a n ≡ true → rank (addresses c) a + n ≤ count c
   span-within a zero h =
@@ -76,13 +77,14 @@ module _ (c : Cells ℕ) (r : risingFrom 0 (addresses c) ≡ true) where
       let i : rank (addresses c) (suc a) + n ≤ count c = span-within (suc a) n (and-right (has (addresses c) a) _ h) in
       omega arith
 
+module _ (c : Cells Held) (r : risingFrom 0 (addresses c) ≡ true) where
   pub span-values : (a n : ℕ) → hasAll (addresses c) a n ≡ true
       → readMany numberCells c a n ≡ pass (take n (drop (rank (addresses c) a) (contents c)))
   unfolding readMany bind
   span-values a zero h = refl
   span-values a (suc n) h =
       let e : has (addresses c) a ≡ true = and-left (has (addresses c) a) _ h in
-      rw (present-get 0 c a r e, span-values (suc a) n (and-right (has (addresses c) a) _ h), contents-from a e)
+      rw (present-get (held 0 0) 0 c a r e, span-values (suc a) n (and-right (has (addresses c) a) _ h), contents-from c r (held 0 0) a e)
 
   pub span-absent : (a n : ℕ) → hasAll (addresses c) a n ≡ false → readMany numberCells c a n ≡ refuse CellAbsent
   unfolding readMany bind
@@ -91,16 +93,16 @@ module _ (c : Cells ℕ) (r : risingFrom 0 (addresses c) ≡ true) where
     where
       go : (hasAll (addresses c) (suc a) n ≡ false → readMany numberCells c (suc a) n ≡ refuse CellAbsent) → (t : Bool) → has (addresses c) a ≡ t
           → (t && hasAll (addresses c) (suc a) n) ≡ false → readMany numberCells c a (suc n) ≡ refuse CellAbsent
-      go k true e h = rw (present-get 0 c a r e, k h)
+      go k true e h = rw (present-get (held 0 0) 0 c a r e, k h)
       go k false e h = rw (absent-get c a e)
 
-  pub span-mark : (a n : ℕ) → hasAll (addresses c) a n ≡ true
-      → spanMark markCells c a n ≡ anyMark (take n (drop (rank (addresses c) a) (contents c)))
-  unfolding spanMark
-  span-mark a zero h = refl
-  span-mark a (suc n) h =
-      let e : has (addresses c) a ≡ true = and-left (has (addresses c) a) _ h in
-      rw (present-get 0 c a r e, span-mark (suc a) n (and-right (has (addresses c) a) _ h), contents-from a e)
+pub span-mark : (t : Cells ℕ) → risingFrom 0 (addresses t) ≡ true → (a n : ℕ) → hasAll (addresses t) a n ≡ true
+    → spanMark markCells t a n ≡ anyMark (take n (drop (rank (addresses t) a) (contents t)))
+unfolding spanMark
+span-mark t r a zero h = refl
+span-mark t r a (suc n) h =
+    let e : has (addresses t) a ≡ true = and-left (has (addresses t) a) _ h in
+    rw (present-get 0 0 t a r e, span-mark t r (suc a) n (and-right (has (addresses t) a) _ h), contents-from t r 0 a e)
 
 -- The marks of a span, one after the other
 

@@ -11,7 +11,7 @@ use borrow.Author.Tests.{lt-ltb, le-ltb, ltb-true, ltb-false, le-leb, ne-eqb, eq
 use Rattle.rules.specs.Cells.{Cells, none, cell, put, addresses, contents}
 use Rattle.rules.specs.Entry.{risingFrom}
 use Rattle.rules.proofs.Laws.BoolLaws.{and-left, and-right, and-true}
-use Rattle.hardware.specs.Buffers.{rank, has, hasAll, putMany}
+use Rattle.hardware.specs.Buffers.{rank, has, hasAll}
 use Rattle.hardware.specs.Places.{overwritten, consecutive, spliced}
 use Rattle.hardware.proofs.RankLaws.{rising-first, rising-rest, rank-below, rank-next, has-rank}
 
@@ -30,8 +30,13 @@ getD-consecutive a (suc n) (suc i) h =
 
 -- Many cells at once
 
+-- the contents of a buffer beside the addresses, put in from an address on
+abbrev pub putAll : Cells ℕ → ℕ → List ℕ → Cells ℕ
+putAll c a [] = c
+putAll c a (v ∷ vs) = putAll (put c a v) (suc a) vs
+
 -- a cell below the first address stays in front
-behind-many : (b w : ℕ) (c : Cells ℕ) (a : ℕ) (vs : List ℕ) → b < a → putMany (cell b w c) a vs ≡ cell b w (putMany c a vs)
+behind-many : (b w : ℕ) (c : Cells ℕ) (a : ℕ) (vs : List ℕ) → b < a → putAll (cell b w c) a vs ≡ cell b w (putAll c a vs)
 behind-many b w c a [] h = refl
 behind-many b w c a (v ∷ vs) h =
     rw (le-ltb a b (omega arith), ne-eqb a b (λ e. omega arith)) (behind-many b w (put c a v) (suc a) vs (omega arith))
@@ -76,15 +81,15 @@ behind (cell b w c) a v r = go (ltb a b) refl (eqb a b) refl
 
 -- of cells from the first address on
 first-many : (c : Cells ℕ) (a : ℕ) (vs : List ℕ) → risingFrom a (addresses c) ≡ true
-    → (addresses (putMany c a vs) ≡ consecutive a (length vs) ++ drop (rank (addresses c) (a + length vs)) (addresses c))
-    × (contents (putMany c a vs) ≡ vs ++ drop (rank (addresses c) (a + length vs)) (contents c))
+    → (addresses (putAll c a vs) ≡ consecutive a (length vs) ++ drop (rank (addresses c) (a + length vs)) (addresses c))
+    × (contents (putAll c a vs) ≡ vs ++ drop (rank (addresses c) (a + length vs)) (contents c))
 first-many c a [] r = rw (rank-below a (addresses c) (a + 0) r (omega arith)) (refl, refl)
 first-many c a (v ∷ vs) r =
     let f = behind c a v r in
     let b = f .1 in
     let q : suc a + length vs ≡ a + suc (length vs) = omega arith in
-    let e : putMany (put c a v) (suc a) vs ≡ cell a v (putMany (f .0) (suc a) vs) =
-    ap (λ (c : Cells ℕ). putMany c (suc a) vs) (b .stored) ∙ behind-many a v (f .0) (suc a) vs (omega arith) in
+    let e : putAll (put c a v) (suc a) vs ≡ cell a v (putAll (f .0) (suc a) vs) =
+    ap (λ (c : Cells ℕ). putAll c (suc a) vs) (b .stored) ∙ behind-many a v (f .0) (suc a) vs (omega arith) in
     let i = first-many (f .0) (suc a) vs (b .rises) in (
       ap addresses e
           ∙ ap (λ (l : List ℕ). a ∷ l) (i .0)
@@ -97,17 +102,17 @@ first-many c a (v ∷ vs) r =
     )
 
 pub spliced-many : (n : ℕ) (c : Cells ℕ) (a : ℕ) (vs : List ℕ) → risingFrom n (addresses c) ≡ true
-    → (addresses (putMany c a vs) ≡ spliced (rank (addresses c) a) (rank (addresses c) (a + length vs)) (consecutive a (length vs)) (addresses c))
-    × (contents (putMany c a vs) ≡ spliced (rank (addresses c) a) (rank (addresses c) (a + length vs)) vs (contents c))
+    → (addresses (putAll c a vs) ≡ spliced (rank (addresses c) a) (rank (addresses c) (a + length vs)) (consecutive a (length vs)) (addresses c))
+    × (contents (putAll c a vs) ≡ spliced (rank (addresses c) a) (rank (addresses c) (a + length vs)) vs (contents c))
 spliced-many n none a vs r = first-many none a vs refl
 spliced-many n (cell b w c) a vs r = go (spliced-many (suc b) c a vs (rising-rest n b (addresses c) r)) (ltb b a) refl
   where
-    go : (addresses (putMany c a vs) ≡ spliced (rank (addresses c) a) (rank (addresses c) (a + length vs)) (consecutive a (length vs)) (addresses c))
-        × (contents (putMany c a vs) ≡ spliced (rank (addresses c) a) (rank (addresses c) (a + length vs)) vs (contents c))
+    go : (addresses (putAll c a vs) ≡ spliced (rank (addresses c) a) (rank (addresses c) (a + length vs)) (consecutive a (length vs)) (addresses c))
+        × (contents (putAll c a vs) ≡ spliced (rank (addresses c) a) (rank (addresses c) (a + length vs)) vs (contents c))
         → (t : Bool) → ltb b a ≡ t
-        → (addresses (putMany (cell b w c) a vs)
+        → (addresses (putAll (cell b w c) a vs)
         ≡ spliced (rank (b ∷ addresses c) a) (rank (b ∷ addresses c) (a + length vs)) (consecutive a (length vs)) (b ∷ addresses c))
-        × (contents (putMany (cell b w c) a vs) ≡ spliced (rank (b ∷ addresses c) a) (rank (b ∷ addresses c) (a + length vs)) vs (w ∷ contents c))
+        × (contents (putAll (cell b w c) a vs) ≡ spliced (rank (b ∷ addresses c) a) (rank (b ∷ addresses c) (a + length vs)) vs (w ∷ contents c))
     go i true e =
         let h : b < a = ltb-true b a e in
         rw (e, lt-ltb b (a + length vs) (omega arith), behind-many b w c a vs h)
@@ -136,7 +141,7 @@ all-there l a (suc n) r h =
     )
 
 pub present-many : (c : Cells ℕ) (a : ℕ) (vs : List ℕ) → risingFrom 0 (addresses c) ≡ true → hasAll (addresses c) a (length vs) ≡ true
-    → (addresses (putMany c a vs) ≡ addresses c) × (contents (putMany c a vs) ≡ overwritten (rank (addresses c) a) vs (contents c))
+    → (addresses (putAll c a vs) ≡ addresses c) × (contents (putAll c a vs) ≡ overwritten (rank (addresses c) a) vs (contents c))
 present-many c a vs r h =
     let s = spliced-many 0 c a vs r in
     let t = all-there (addresses c) a (length vs) r h in

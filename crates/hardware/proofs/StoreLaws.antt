@@ -9,8 +9,10 @@ use lib.Dec.{ltb, leb, eqb}
 use lib.ListN.{length}
 use borrow.Author.Tests.{lt-ltb, le-leb, ltb-true, ltb-false, eqb-true, eqb-false}
 use Rattle.rules.specs.declared.Refusal.the-variants.{StoreFault, ProphetStore}
+use Rattle.rules.specs.declared.Held.{Held}
 use Rattle.rules.specs.Numbers.{p, heapEnd, choose}
 use Rattle.rules.specs.Results.{pass}
+use Rattle.rules.specs.Memory.{held}
 use Rattle.rules.specs.Cells.{Cells, none, cell, put, count, addresses, contents, numberCells, markCells, Rising}
 use Rattle.rules.specs.PlainMap.{isPresent}
 use Rattle.rules.specs.Step.{isStorable, storeMany}
@@ -45,12 +47,12 @@ pub rising-put : {A : Type 0} (c : Cells A) (a : ℕ) (v : A) → a < heapEnd �
     → risingFrom 0 (addresses (put c a v)) ≡ true
 rising-put c a v h r = risingFrom-put 0 c a v (omega arith) h r
 
-pub rising-putMany : (c : Cells ℕ) (a : ℕ) (vs : List ℕ) → (0 < length vs → a + length vs ≤ heapEnd) → risingFrom 0 (addresses c) ≡ true
-    → risingFrom 0 (addresses (putMany c a vs)) ≡ true
-rising-putMany c a [] h r = r
-rising-putMany c a (v ∷ vs) h r =
+pub rising-putMany : (moment : ℕ) (c : Cells Held) (a : ℕ) (vs : List ℕ) → (0 < length vs → a + length vs ≤ heapEnd)
+    → risingFrom 0 (addresses c) ≡ true → risingFrom 0 (addresses (putMany moment c a vs)) ≡ true
+rising-putMany moment c a [] h r = r
+rising-putMany moment c a (v ∷ vs) h r =
     let k : a + suc (length vs) ≤ heapEnd = h (omega arith) in
-    rising-putMany (put c a v) (suc a) vs (λ l. omega arith) (rising-put c a v (omega arith) r)
+    rising-putMany moment (put c a (held v moment)) (suc a) vs (λ l. omega arith) (rising-put c a (held v moment) (omega arith) r)
 
 -- Marks beside numbers
 
@@ -71,52 +73,55 @@ addresses-put {A} {B} (cell d u t) (cell b w c) a x y e =
     go i h false true = ap (λ l. a ∷ l) i
     go i h false false = ap (λ l. b ∷ l) h
 
-pub addresses-cleanMany : (t c : Cells ℕ) (a : ℕ) (vs : List ℕ) → addresses t ≡ addresses c
-    → addresses (cleanMany markCells t a vs) ≡ addresses (putMany c a vs)
+pub addresses-cleanMany : (moment : ℕ) (t : Cells ℕ) (c : Cells Held) (a : ℕ) (vs : List ℕ) → addresses t ≡ addresses c
+    → addresses (cleanMany markCells t a vs) ≡ addresses (putMany moment c a vs)
 unfolding cleanMany
-addresses-cleanMany t c a [] e = e
-addresses-cleanMany t c a (v ∷ vs) e = addresses-cleanMany (put t a 0) (put c a v) (suc a) vs (addresses-put t c a 0 v e)
+addresses-cleanMany moment t c a [] e = e
+addresses-cleanMany moment t c a (v ∷ vs) e =
+    addresses-cleanMany moment (put t a 0) (put c a (held v moment)) (suc a) vs (addresses-put t c a 0 (held v moment) e)
 
 -- How many cells there are
 
-pub has-put-other : (c : Cells ℕ) (a v x : ℕ) → (a ≡ x → ⊥) → has (addresses (put c a v)) x ≡ has (addresses c) x
+pub has-put-other : {A : Type 0} (c : Cells A) (a : ℕ) (v : A) (x : ℕ) → (a ≡ x → ⊥) → has (addresses (put c a v)) x ≡ has (addresses c) x
 has-put-other c a v x n = sym (present-has (put c a v) x) ∙ ap isPresent (get-put-other c a v x n) ∙ present-has c x
 
 -- a store changes nothing behind its address
-pub missing-put : (c : Cells ℕ) (a v b n : ℕ) → a < b → missing (addresses (put c a v)) b n ≡ missing (addresses c) b n
+pub missing-put : {A : Type 0} (c : Cells A) (a : ℕ) (v : A) (b n : ℕ) → a < b → missing (addresses (put c a v)) b n ≡ missing (addresses c) b n
 missing-put c a v b zero h = refl
 missing-put c a v b (suc n) h = rw (has-put-other c a v b (λ e. omega arith), missing-put c a v (suc b) n (omega arith))
 
 rises : {A : Type 0} (c : Cells A) → risingFrom 0 (addresses c) ≡ true → Rising c
 rises c r = subst Rising (zipped-again c) (zipped-rising (addresses c) (contents c) r)
 
-count-one : (c : Cells ℕ) (a v : ℕ) → Rising c → count (put c a v) ≡ count c + missing (addresses c) a 1
+count-one : {A : Type 0} (c : Cells A) (a : ℕ) (v : A) → Rising c → count (put c a v) ≡ count c + missing (addresses c) a 1
 count-one c a v r = rw (count-put 0 c a v r, present-has c a) (go (has (addresses c) a))
   where
     go : (t : Bool) → choose t (count c) (suc (count c)) ≡ count c + choose t 0 1
     go true = omega arith
     go false = omega arith
 
-count-many : (c : Cells ℕ) (a : ℕ) (vs : List ℕ) → Rising c → count (putMany c a vs) ≡ count c + missing (addresses c) a (length vs)
-count-many c a [] r = omega arith
-count-many c a (v ∷ vs) r =
-    let i : count (putMany (put c a v) (suc a) vs) ≡ count (put c a v) + missing (addresses c) (suc a) (length vs) =
-    rw (missing-put c a v (suc a) (length vs) (omega arith)) at (count-many (put c a v) (suc a) vs (map-rising-put c a v r))
+count-many : (moment : ℕ) (c : Cells Held) (a : ℕ) (vs : List ℕ) → Rising c
+    → count (putMany moment c a vs) ≡ count c + missing (addresses c) a (length vs)
+count-many moment c a [] r = omega arith
+count-many moment c a (v ∷ vs) r =
+    let d = put c a (held v moment) in
+    let i : count (putMany moment d (suc a) vs) ≡ count d + missing (addresses c) (suc a) (length vs) =
+    rw (missing-put c a (held v moment) (suc a) (length vs) (omega arith)) at (count-many moment d (suc a) vs (map-rising-put c a (held v moment) r))
     in
-    go (has (addresses c) a) i (count-one c a v r)
+    go d (has (addresses c) a) i (count-one c a (held v moment) r)
   where
-    go : (t : Bool) → count (putMany (put c a v) (suc a) vs) ≡ count (put c a v) + missing (addresses c) (suc a) (length vs)
-        → count (put c a v) ≡ count c + choose t 0 1
-        → count (putMany (put c a v) (suc a) vs) ≡ count c + choose t (missing (addresses c) (suc a) (length vs)) (suc (missing (addresses c) (suc a) (length vs)))
-    go true i h = omega arith
-    go false i h = omega arith
+    go : (d : Cells Held) (t : Bool) → count (putMany moment d (suc a) vs) ≡ count d + missing (addresses c) (suc a) (length vs)
+        → count d ≡ count c + choose t 0 1
+        → count (putMany moment d (suc a) vs) ≡ count c + choose t (missing (addresses c) (suc a) (length vs)) (suc (missing (addresses c) (suc a) (length vs)))
+    go d true i h = omega arith
+    go d false i h = omega arith
 
-pub count-put-missing : (c : Cells ℕ) (a v : ℕ) → risingFrom 0 (addresses c) ≡ true → count (put c a v) ≡ count c + missing (addresses c) a 1
+pub count-put-missing : {A : Type 0} (c : Cells A) (a : ℕ) (v : A) → risingFrom 0 (addresses c) ≡ true → count (put c a v) ≡ count c + missing (addresses c) a 1
 count-put-missing c a v r = count-one c a v (rises c r)
 
-pub count-putMany : (c : Cells ℕ) (a : ℕ) (vs : List ℕ) → risingFrom 0 (addresses c) ≡ true
-    → count (putMany c a vs) ≡ count c + missing (addresses c) a (length vs)
-count-putMany c a vs r = count-many c a vs (rises c r)
+pub count-putMany : (moment : ℕ) (c : Cells Held) (a : ℕ) (vs : List ℕ) → risingFrom 0 (addresses c) ≡ true
+    → count (putMany moment c a vs) ≡ count c + missing (addresses c) a (length vs)
+count-putMany moment c a vs r = count-many moment c a vs (rises c r)
 
 -- The rules' store of many
 
@@ -124,31 +129,31 @@ below-p : (a : ℕ) → a < heapEnd → a < p
 unfolding heapEnd p
 below-p a h = omega arith
 
-pub stored : (c : Cells ℕ) (a : ℕ) (vs : List ℕ) {d : Cells ℕ} → storeMany numberCells c a vs ≡ pass d → d ≡ putMany c a vs
+pub stored : (moment : ℕ) (c : Cells Held) (a : ℕ) (vs : List ℕ) {d : Cells Held} → storeMany numberCells moment c a vs ≡ pass d → d ≡ putMany moment c a vs
 unfolding storeMany
-stored c a [] e = sym (pass-injective e)
-stored c a (v ∷ vs) e =
-    stored (put c a v) (suc a) vs (require-pass (ltb a heapEnd) ProphetStore _ (require-pass (ltb a p) StoreFault _ (require-pass (isStorable v) StoreFault _ e .1) .1) .1)
+stored moment c a [] e = sym (pass-injective e)
+stored moment c a (v ∷ vs) e =
+    stored moment (put c a (held v moment)) (suc a) vs (require-pass (ltb a heapEnd) ProphetStore _ (require-pass (ltb a p) StoreFault _ (require-pass (isStorable v) StoreFault _ e .1) .1) .1)
 
 -- what it says of the tests
-pub stored-within : (c : Cells ℕ) (a : ℕ) (vs : List ℕ) {d : Cells ℕ} → storeMany numberCells c a vs ≡ pass d → 0 < length vs → a + length vs ≤ heapEnd
+pub stored-within : (moment : ℕ) (c : Cells Held) (a : ℕ) (vs : List ℕ) {d : Cells Held} → storeMany numberCells moment c a vs ≡ pass d → 0 < length vs → a + length vs ≤ heapEnd
 unfolding storeMany
-stored-within c a [] e h = absurd (omega arith)
-stored-within c a (v ∷ vs) e h =
+stored-within moment c a [] e h = absurd (omega arith)
+stored-within moment c a (v ∷ vs) e h =
     let q = require-pass (ltb a heapEnd) ProphetStore _ (require-pass (ltb a p) StoreFault _ (require-pass (isStorable v) StoreFault _ e .1) .1) in
     let k : a < heapEnd = ltb-true a heapEnd (q .0) in
-    go k vs (stored-within (put c a v) (suc a) vs (q .1))
+    go k vs (stored-within moment (put c a (held v moment)) (suc a) vs (q .1))
   where
     go : a < heapEnd → (vs : List ℕ) → (0 < length vs → suc a + length vs ≤ heapEnd) → a + suc (length vs) ≤ heapEnd
     go k [] i = omega arith
     go k (w ∷ ws) i = let j : suc a + suc (length ws) ≤ heapEnd = i (omega arith) in omega arith
 
-pub stores : (c : Cells ℕ) (a : ℕ) (vs : List ℕ) → every isStorable vs ≡ true → (0 < length vs → a + length vs ≤ heapEnd)
-    → storeMany numberCells c a vs ≡ pass (putMany c a vs)
+pub stores : (moment : ℕ) (c : Cells Held) (a : ℕ) (vs : List ℕ) → every isStorable vs ≡ true → (0 < length vs → a + length vs ≤ heapEnd)
+    → storeMany numberCells moment c a vs ≡ pass (putMany moment c a vs)
 unfolding storeMany
-stores c a [] s h = refl
-stores c a (v ∷ vs) s h =
+stores moment c a [] s h = refl
+stores moment c a (v ∷ vs) s h =
     let k : a + suc (length vs) ≤ heapEnd = h (omega arith) in
     pass-require StoreFault (and-left (isStorable v) _ s)
     (pass-require StoreFault (lt-ltb a p (below-p a (omega arith)))
-    (pass-require ProphetStore (lt-ltb a heapEnd (omega arith)) (stores (put c a v) (suc a) vs (and-right (isStorable v) _ s) (λ l. omega arith))))
+    (pass-require ProphetStore (lt-ltb a heapEnd (omega arith)) (stores moment (put c a (held v moment)) (suc a) vs (and-right (isStorable v) _ s) (λ l. omega arith))))

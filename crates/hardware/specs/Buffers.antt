@@ -5,8 +5,9 @@ use mathlib.Core.Bool.{Bool, true, false, _&&_, _||_}
 use mathlib.Core.List.{List, [], _∷_}
 use lib.Dec.{ltb, eqb}
 use lib.ListN.{length, take}
+use Rattle.rules.specs.declared.Held.{Held}
 use Rattle.rules.specs.Numbers.{choose}
-use Rattle.rules.specs.Memory.{Content, absent, present}
+use Rattle.rules.specs.Memory.{Content, absent, present, held, numbersOf, momentsOf, heldOf}
 use Rattle.rules.specs.Cells as Cells
 use Rattle.rules.specs.Cells.{Cells, zipped, get, put, count, markCells}
 use Rattle.rules.specs.Step.{overlay}
@@ -55,22 +56,26 @@ missing l a (suc n) = choose (has l a) (missing l (suc a) n) (suc (missing l (su
 
 -- Cells
 
--- the first n elements of two buffers, as cells
-abbrev pub cellsOf : ℕ → List ℕ → List ℕ → Cells ℕ
-cellsOf n xs ns = zipped (take n xs) (take n ns)
+-- the first n elements of three buffers, as cells: addresses, numbers and moments
+abbrev pub cellsOf : ℕ → List ℕ → List ℕ → List ℕ → Cells Held
+cellsOf n xs ns ms = zipped (take n xs) (heldOf (take n ns) (take n ms))
 
-abbrev pub contentCell : Content ℕ → Bool → Cell
+-- their marks
+abbrev pub markCellsOf : ℕ → List ℕ → List ℕ → Cells ℕ
+markCellsOf n xs ts = zipped (take n xs) (take n ts)
+
+abbrev pub contentCell : Content Held → Bool → Cell
 contentCell absent t = Cell.Absent
-contentCell (present v) t = Cell.Present v t
+contentCell (present h) t = Cell.Present (h .number) (h .moment) t
 
 -- a cell, and in a guarded run its mark
-abbrev pub cellOf : Bool → Cells ℕ → Cells ℕ → ℕ → Cell
+abbrev pub cellOf : Bool → Cells Held → Cells ℕ → ℕ → Cell
 cellOf guarded c t a = contentCell (get c a) (guarded && cellMark markCells t a)
 
--- the cells with values from an address on
-abbrev pub putMany : Cells ℕ → ℕ → List ℕ → Cells ℕ
-putMany c a [] = c
-putMany c a (v ∷ vs) = putMany (put c a v) (suc a) vs
+-- the cells with values from an address on, which all have one moment
+abbrev pub putMany : ℕ → Cells Held → ℕ → List ℕ → Cells Held
+putMany moment c a [] = c
+putMany moment c a (v ∷ vs) = putMany moment (put c a (held v moment)) (suc a) vs
 
 -- is one of the marks set?
 abbrev pub anyMark : List ℕ → Bool
@@ -83,14 +88,16 @@ pub record Rising (n : ℕ) (xs : List ℕ) : Type 0 where
   pub rises : risingFrom 0 (take n xs) ≡ true
 
 -- the buffers of cells, of which the first n are used, have one length; the marks' buffer counts only in a guarded run
-pub record Ordered (guarded : Bool) (n : ℕ) (xs ns ts : List ℕ) : Type 0 where
+pub record Ordered (guarded : Bool) (n : ℕ) (xs ns ms ts : List ℕ) : Type 0 where
   pub addresses : Rising n xs
   pub level : length ns ≡ length xs
+  pub momentLevel : length ms ≡ length xs
   pub markLevel : guarded ≡ true → length ts ≡ length xs
 
 -- the buffers afterwards hold the cells c, r in number, and in a guarded run the marks t; behind them stands what stood there
-pub record Holding (guarded : Bool) (c t : Cells ℕ) (r : ℕ) (xs ns ts xs′ ns′ ts′ : List ℕ) : Type 0 where
+pub record Holding (guarded : Bool) (c : Cells Held) (t : Cells ℕ) (r : ℕ) (xs ns ms ts xs′ ns′ ms′ ts′ : List ℕ) : Type 0 where
   pub used : r ≡ count c
   pub addresses : xs′ ≡ overlay (Cells.addresses c) xs
-  pub numbers : ns′ ≡ overlay (Cells.contents c) ns
+  pub numbers : ns′ ≡ overlay (numbersOf (Cells.contents c)) ns
+  pub moments : ms′ ≡ overlay (momentsOf (Cells.contents c)) ms
   pub marks : ts′ ≡ choose guarded (overlay (Cells.contents t) ts) ts

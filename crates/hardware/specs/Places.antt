@@ -14,10 +14,10 @@ insertAt (suc i) v (x ∷ l) = x ∷ insertAt i v l
 abbrev pub overwritten : ℕ → List ℕ → List ℕ → List ℕ
 overwritten i vs l = take i l ++ overlay vs (drop i l)
 
--- as many zeros
-abbrev pub zeros : List ℕ → List ℕ
-zeros [] = []
-zeros (x ∷ l) = 0 ∷ zeros l
+-- as many of one value
+abbrev pub filled : ℕ → List ℕ → List ℕ
+filled v [] = []
+filled v (x ∷ l) = v ∷ filled v l
 
 -- n addresses without gaps
 abbrev pub consecutive : ℕ → ℕ → List ℕ

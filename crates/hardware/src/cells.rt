@@ -1,15 +1,17 @@
-// Memory cells: a map from address to number, and in a guarded run to a mark, in buffers whose first `count` elements are used; the
-// addresses are strictly rising.
+// Memory cells: a map from address to number and moment, and in a guarded run to a mark, in buffers whose first `count` elements are used;
+// the addresses are strictly rising. A cell's moment is the clk before the step that last wrote it.
 use goldilocks::GoldilocksField;
+use rules::Held;
 ghost use mathlib.Core.Path.{_≡_};
 ghost use mathlib.Core.Bool.{true, _&&_};
 ghost use Prim.Native.Nat.{_+_, _≤_, _<_};
 ghost use lib.Dec.{leb, eqb};
 ghost use lib.ListN.{length, getD, take, drop};
 ghost use Rattle.rules.specs.Numbers.{wordEnd};
+ghost use Rattle.rules.specs.Memory.{held};
 ghost use Rattle.rules.specs.Entry.{risingFrom};
 ghost use Rattle.hardware.specs.Buffers.{rank, lastAtMost, foundOf, spanOf, missing, Rising, Ordered};
-ghost use Rattle.hardware.specs.Buffers.{cellsOf, cellOf, anyMark};
+ghost use Rattle.hardware.specs.Buffers.{cellsOf, markCellsOf, cellOf, anyMark};
 
 // Where an address is, or where it would go.
 pub enum Found {
@@ -19,7 +21,11 @@ pub enum Found {
 
 // What stands at an address. A mark is told only in a guarded run.
 pub enum Cell {
-    Present { number: u64, marked: bool },
+    Present {
+        number: u64,
+        moment: u64,
+        marked: bool,
+    },
     Absent,
 }
 
@@ -128,16 +134,18 @@ pub fn read(
     address: u64,
     addresses: &[u64],
     numbers: &[u64],
+    moments: &[u64],
     marks: &[u64],
 ) -> Cell
-    requires { ⌜ Ordered guarded count (now addresses) (now numbers) (now marks) ⌝ }
+    requires { ⌜ Ordered guarded count (now addresses) (now numbers) (now moments) (now marks) ⌝ }
     ensures { λ r. ⌜ r
-        ≡ cellOf guarded (cellsOf count (now (addresses .entry)) (now (numbers .entry)))
-        (cellsOf count (now (addresses .entry)) (now (marks .entry))) address ⌝ }
+        ≡ cellOf guarded (cellsOf count (now (addresses .entry)) (now (numbers .entry)) (now (moments .entry)))
+        (markCellsOf count (now (addresses .entry)) (now (marks .entry))) address ⌝ }
 {
     match find(count, address, addresses) {
         Found::At(at) => Cell::Present {
             number: numbers[at],
+            moment: moments[at],
             marked: guarded && marks[at] == 1,
         },
         Found::Absent(_) => Cell::Absent,
@@ -156,12 +164,16 @@ pub fn is_next(count: usize, at: usize, address: u64, addresses: &[u64]) -> bool
     addresses[at + 1] == address
 }
 
-// The number of the cell at a place.
-pub fn number_at(at: usize, numbers: &[u64]) -> u64
+// The number and the moment of the cell at a place.
+pub fn held_at(at: usize, numbers: &[u64], moments: &[u64]) -> Held
     requires { ⌜ at < length (now numbers) ⌝ }
-    ensures { λ r. ⌜ r ≡ getD (now (numbers .entry)) at 0 ⌝ }
+    requires { ⌜ at < length (now moments) ⌝ }
+    ensures { λ r. ⌜ r ≡ held (getD (now (numbers .entry)) at 0) (getD (now (moments .entry)) at 0) ⌝ }
 {
-    numbers[at]
+    Held {
+        number: numbers[at],
+        moment: moments[at],
+    }
 }
 
 // Is the cell at a place marked?
@@ -183,6 +195,15 @@ pub fn read_four(at: usize, numbers: &[u64]) -> [u64; 4]
         numbers[at + 2],
         numbers[at + 3],
     ]
+}
+
+// The numbers of the n cells from a place on.
+pub fn span_numbers(at: usize, n: usize, numbers: &[u64]) -> &[u64]
+    requires { ⌜ at + n ≤ length (now numbers) ⌝ }
+    ensures { λ r. ⌜ now r ≡ take n (drop at (now (numbers .entry))) ⌝ }
+{
+    let end = at + n;
+    &numbers[at..end]
 }
 
 // Where the n cells from an address on are. Addresses rise, so all are present where the last of as many places has the last address.

@@ -11,12 +11,13 @@ use Rattle.rules.specs.Cells.{Cells, count, addresses, contents, markCells}
 use Rattle.rules.specs.Step.{overlay}
 use Rattle.rules.specs.Guarded.{cleanMany}
 use Rattle.rules.proofs.Laws.CellLaws.{length-addresses}
-use Rattle.hardware.specs.Buffers.{rank, missing, cellsOf, putMany, Rising, Ordered, Holding}
-use Rattle.hardware.specs.Places.{overwritten, zeros, consecutive, spliced, moved}
+use Rattle.rules.proofs.Laws.HeldLaws.{count-mapped}
+use Rattle.hardware.specs.Buffers.{rank, missing, cellsOf, markCellsOf, putMany, Rising, Ordered, Holding}
+use Rattle.hardware.specs.Places.{overwritten, filled, consecutive, spliced, moved}
 use Rattle.hardware.proofs.StoreLaws.{count-putMany}
-use Rattle.hardware.proofs.SpliceLaws.{length-consecutive}
-use Rattle.hardware.proofs.BufferLaws.{rank-used, ranks-rise, new-cells, addresses-of, rises-of, splice}
-use Rattle.storing.proofs.OverwriteLaws.{length-zeros, overwritten-none, part-length, part-back, clean-zeros}
+use Rattle.hardware.proofs.SpliceLaws.{putAll, length-consecutive}
+use Rattle.hardware.proofs.BufferLaws.{rank-used, ranks-rise, new-cells, addresses-of, rises-of, splice, many-alone, held-together}
+use Rattle.storing.proofs.OverwriteLaws.{length-filled, overwritten-none, part-length, part-back, clean-zeros}
 
 -- Moving up, from the end on
 
@@ -104,44 +105,51 @@ places-for n xs o a k low high e f h =
 module _ (n : ℕ) (xs bs : List ℕ) (o : Rising n xs) (l : length bs ≡ length xs) (a k : ℕ) (vs : List ℕ) (q : k ≡ length vs) (low high : ℕ)
     (e : low ≡ rank (take n xs) a) (f : high ≡ rank (take n xs) (a + k)) where
   contents-filled : n + missing (take n xs) a k ≤ length xs
-      → overwritten low vs (moved n high (low + k) bs) ≡ overlay (contents (putMany (cellsOf n xs bs) a vs)) bs
+      → overwritten low vs (moved n high (low + k) bs) ≡ overlay (contents (putAll (markCellsOf n xs bs) a vs)) bs
   contents-filled h =
       let r : PlacesFor n xs a k low high = places-for n xs o a k low high e f h in
       places-filled n low high k vs bs q (omega arith) (omega arith)
       ∙ ap (λ (z : List ℕ). overlay z bs) (sym (splice n xs bs o l a k vs q low high e f .1))
 
-pub count-stored : (n : ℕ) (xs bs : List ℕ) → Rising n xs → length bs ≡ length xs → (a : ℕ) (vs : List ℕ)
-    → count (putMany (cellsOf n xs bs) a vs) ≡ n + missing (take n xs) a (length vs)
-count-stored n xs bs o l a vs =
-    let c : addresses (cellsOf n xs bs) ≡ take n xs = addresses-of n xs bs o l in
-    let m : count (cellsOf n xs bs) ≡ n = sym (length-addresses (cellsOf n xs bs)) ∙ ap length c ∙ length-take-le n xs (o .within) in
-    count-putMany (cellsOf n xs bs) a vs (rises-of n xs bs o l) ∙ rw (c, m)
+pub count-stored : (n : ℕ) (xs ns ms : List ℕ) → Rising n xs → length ns ≡ length xs → length ms ≡ length xs → (moment a : ℕ) (vs : List ℕ)
+    → count (putMany moment (cellsOf n xs ns ms) a vs) ≡ n + missing (take n xs) a (length vs)
+count-stored n xs ns ms o l m moment a vs =
+    let c : addresses (cellsOf n xs ns ms) ≡ take n xs = addresses-of n xs ns ms o l m in
+    let k : count (cellsOf n xs ns ms) ≡ n = sym (length-addresses (cellsOf n xs ns ms)) ∙ ap length c ∙ length-take-le n xs (o .within) in
+    count-putMany moment (cellsOf n xs ns ms) a vs (rises-of n xs ns ms o l m) ∙ rw (c, k)
 
-module _ (guarded : Bool) (n : ℕ) (xs ns ts : List ℕ) (o : Ordered guarded n xs ns ts) (a : ℕ) (vs : List ℕ) (low : ℕ)
+module _ (guarded : Bool) (n : ℕ) (xs ns ms ts : List ℕ) (o : Ordered guarded n xs ns ms ts) (a : ℕ) (vs : List ℕ) (low : ℕ)
     (e : low ≡ rank (take n xs) a) (h : n + missing (take n xs) a (length vs) ≤ length xs) where
   abbrev high : ℕ
   high = rank (take n xs) (a + length vs)
 
+  -- one value in all their places
+  places-alike : (v : ℕ) (bs : List ℕ) → length bs ≡ length xs
+      → overwritten low (filled v vs) (moved n high (low + length vs) bs) ≡ overlay (contents (putAll (markCellsOf n xs bs) a (filled v vs))) bs
+  places-alike v bs l =
+      contents-filled n xs bs (o .addresses) l a (length vs) (filled v vs) (sym (length-filled v vs)) low high e refl h
+
   marks-filled : (s : Bool) → guarded ≡ s → (ts₁ : List ℕ) → ts₁ ≡ choose s (moved n high (low + length vs) ts) ts
-      → choose s (overwritten low (zeros vs) ts₁) ts₁ ≡ choose s (overlay (contents (cleanMany markCells (cellsOf n xs ts) a vs)) ts) ts
+      → choose s (overwritten low (filled 0 vs) ts₁) ts₁ ≡ choose s (overlay (contents (cleanMany markCells (markCellsOf n xs ts) a vs)) ts) ts
   marks-filled true q ts₁ g =
-      ap (overwritten low (zeros vs)) g
-      ∙ contents-filled n xs ts (o .addresses) (o .markLevel q) a (length vs) (zeros vs) (sym (length-zeros vs)) low high e refl h
-      ∙ ap (λ (t : Cells ℕ). overlay (contents t) ts) (sym (clean-zeros (cellsOf n xs ts) a vs))
+      ap (overwritten low (filled 0 vs)) g
+      ∙ places-alike 0 ts (o .markLevel q)
+      ∙ ap (λ (t : Cells ℕ). overlay (contents t) ts) (sym (clean-zeros (markCellsOf n xs ts) a vs))
   marks-filled false q ts₁ g = g
 
-  pub places-hold : (r : ℕ) (xs′ ns₁ ts₁ ns′ ts′ : List ℕ) → r ≡ n + missing (take n xs) a (length vs)
+  pub places-hold : (moment r : ℕ) (xs′ ns₁ ms₁ ts₁ ns′ ms′ ts′ : List ℕ) → r ≡ n + missing (take n xs) a (length vs)
       → xs′ ≡ overlay (spliced low high (consecutive a (length vs)) (take n xs)) xs
-      → ns₁ ≡ moved n high (low + length vs) ns → ts₁ ≡ choose guarded (moved n high (low + length vs) ts) ts
-      → ns′ ≡ overwritten low vs ns₁ → ts′ ≡ choose guarded (overwritten low (zeros vs) ts₁) ts₁
-      → Holding guarded (putMany (cellsOf n xs ns) a vs) (cleanMany markCells (cellsOf n xs ts) a vs) r xs ns ts xs′ ns′ ts′
-  places-hold r xs′ ns₁ ts₁ ns′ ts′ u f g k i j =
+      → ns₁ ≡ moved n high (low + length vs) ns → ms₁ ≡ moved n high (low + length vs) ms
+      → ts₁ ≡ choose guarded (moved n high (low + length vs) ts) ts
+      → ns′ ≡ overwritten low vs ns₁ → ms′ ≡ overwritten low (filled moment vs) ms₁ → ts′ ≡ choose guarded (overwritten low (filled 0 vs) ts₁) ts₁
+      → Holding guarded (putMany moment (cellsOf n xs ns ms) a vs) (cleanMany markCells (markCellsOf n xs ts) a vs) r xs ns ms ts xs′ ns′ ms′ ts′
+  places-hold moment r xs′ ns₁ ms₁ ts₁ ns′ ms′ ts′ u f g m k i p j =
       let s = splice n xs ns (o .addresses) (o .level) a (length vs) vs refl low high e refl in
-      record {
-        used = u ∙ sym (count-stored n xs ns (o .addresses) (o .level) a vs);
-        addresses = f ∙ ap (λ (z : List ℕ). overlay z xs) (sym (s .0));
-        numbers = i
-            ∙ ap (overwritten low vs) g
-            ∙ contents-filled n xs ns (o .addresses) (o .level) a (length vs) vs refl low high e refl h;
-        marks = j ∙ marks-filled guarded refl ts₁ k;
-      }
+      let b = many-alone n xs ns ms (o .addresses) (o .level) (o .momentLevel) moment a vs in
+      let c = count-stored n xs ns ms (o .addresses) (o .level) (o .momentLevel) moment a vs in
+      held-together b
+      (u ∙ sym c ∙ sym (count-mapped (λ h. h .number) (putMany moment (cellsOf n xs ns ms) a vs)) ∙ ap count (b .numbers))
+      (f ∙ ap (λ (z : List ℕ). overlay z xs) (sym (s .0)))
+      (i ∙ ap (overwritten low vs) g ∙ contents-filled n xs ns (o .addresses) (o .level) a (length vs) vs refl low high e refl h)
+      (p ∙ ap (overwritten low (filled moment vs)) m ∙ places-alike moment ms (o .momentLevel))
+      (j ∙ marks-filled guarded refl ts₁ k)

@@ -26,7 +26,7 @@ part-store-many-end c = search needs
 
 store-many-requires : tie.Need-store-many-requires
 store-many-requires c κs =
-    let s = c .before .before .before .before .before .before .before .before in
+    let s = c .before .before .before .before .before .before .before .before .before .before in
     let a = s .args in
     let e : a .from + a .n - a .from ≡ a .n = omega arith in
     let l : length (part (a .from) (a .n) (a .tape .now)) ≡ a .n = part-length (a .tape .now) (a .from) (a .n) (s .pre .1 .0) in
@@ -41,11 +41,14 @@ same-length-2 c = search needs
 same-length-3 : tie.Need-same-length-3
 same-length-3 c = search needs
 
+same-length-4 : tie.Need-same-length-4
+same-length-4 c = search needs
+
 returns : tie.Need-returns
 returns c =
-    let a = c .before .before .before .before .before .before .before .before .before .before .before .before .before .before .before .args in
+    let a = c .before .before .before .before .before .before .before .before .before .before .before .before .before .before .before .before .before .before .before .args in
     let e : a .from + a .n - a .from ≡ a .n = omega arith in
-    rw e at (c .before .before .before .before .before .before .store-many .ensures)
+    rw e at (c .before .before .before .before .before .before .before .before .store-many .ensures)
 
 pub load-tape-spec : {M : Type 1} → statement M
 load-tape-spec =
@@ -60,4 +63,5 @@ load-tape-spec =
     same-length
     same-length-2
     same-length-3
+    same-length-4
     returns)

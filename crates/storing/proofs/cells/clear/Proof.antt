@@ -6,14 +6,14 @@ use native.Mathlib.Omega.{arith}
 use lib.ListN.{length, set, take, length-set}
 use lib.Seq.{take-all}
 use Rattle.rules.specs.Step.{overlay}
-use Rattle.hardware.specs.Places.{zeros}
+use Rattle.hardware.specs.Places.{filled}
 use Rattle.hardware.proofs.WriteLaws.{overlay-next}
-use Rattle.storing.proofs.OverwriteLaws.{length-zeros, getD-zeros, overlay-all}
+use Rattle.storing.proofs.OverwriteLaws.{length-filled, getD-filled, overlay-all}
 use Rattle.storing.proofs.cells.clear.Statement.{statement}
 use Rattle.storing.proofs.cells.clear.Tie as tie
 
 abbrev Inv-loop : tie.InvT-loop
-Inv-loop marks₀ i₀ marks i = (i ≤ length marks₀) × (marks ≡ overlay (take i (zeros marks₀)) marks₀) × (length marks ≡ length marks₀)
+Inv-loop marks₀ i₀ marks i = (i ≤ length marks₀) × (marks ≡ overlay (take i (filled 0 marks₀)) marks₀) × (length marks ≡ length marks₀)
 
 abbrev μ-loop : tie.MeasureT-loop
 μ-loop marks₀ i₀ marks i = length marks₀ - i
@@ -35,13 +35,13 @@ loop-less c = omega arith
 
 loop-again : tie.Need-loop-again Inv-loop μ-loop
 loop-again c =
-    let ts = c .before .before .args .marks .now in
+    let a = c .before .before .args in
     let l = c .before .loop in
-    let k : length (zeros ts) ≡ length ts = length-zeros ts in (
+    let k : length (filled 0 (a .marks .now)) ≡ length (a .marks .now) = length-filled 0 (a .marks .now) in (
       omega arith,
       ap (λ (z : List ℕ). set z (l .i) 0) (l .inv .1)
-          ∙ ap (set (overlay (take (l .i) (zeros ts)) ts) (l .i)) (sym (getD-zeros ts (l .i)))
-          ∙ overlay-next (zeros ts) ts (l .i) (omega arith) (omega arith),
+          ∙ ap (set (overlay (take (l .i) (filled 0 (a .marks .now))) (a .marks .now)) (l .i)) (sym (getD-filled 0 (a .marks .now) (l .i) (omega arith)))
+          ∙ overlay-next (filled 0 (a .marks .now)) (a .marks .now) (l .i) (omega arith) (omega arith),
       simp length-set (omega arith),
     )
 
@@ -50,10 +50,12 @@ same-length c = c .before .loop .inv .2
 
 returns : tie.Need-returns Inv-loop μ-loop
 returns c =
-    let ts = c .before .before .args .marks .now in
+    let a = c .before .before .args in
     let l = c .before .loop in
-    let k : length (zeros ts) ≡ length ts = length-zeros ts in
-    l .inv .1 ∙ ap (λ (z : List ℕ). overlay z ts) (take-all (l .i) (zeros ts) (omega arith)) ∙ overlay-all (zeros ts) ts k
+    let k : length (filled 0 (a .marks .now)) ≡ length (a .marks .now) = length-filled 0 (a .marks .now) in
+    l .inv .1
+    ∙ ap (λ (z : List ℕ). overlay z (a .marks .now)) (take-all (l .i) (filled 0 (a .marks .now)) (omega arith))
+    ∙ overlay-all (filled 0 (a .marks .now)) (a .marks .now) k
 
 pub clear-spec : {M : Type 1} → statement M
 clear-spec =

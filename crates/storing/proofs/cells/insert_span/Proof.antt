@@ -14,15 +14,15 @@ use borrow.Author.Needs.{needs}
 use Rattle.storing.proofs.cells.insert_span.Statement.{statement}
 use Rattle.storing.proofs.cells.insert_span.Tie as tie
 
-add-rank-of : tie.Need-add-rank-of
-unfolding wordEnd
-add-rank-of c = omega arith
-
 slice-reshare-prefix-rank-of : tie.Need-slice-reshare-prefix-rank-of
 slice-reshare-prefix-rank-of c = search needs
 
 slice-aggregate-rank-of : tie.Need-slice-aggregate-rank-of
-slice-aggregate-rank-of c = sym (length-take-le _ _ (c .before .before .before .before .pre .0 .addresses .within))
+slice-aggregate-rank-of c = sym (length-take-le _ _ (c .before .before .before .before .before .pre .0 .addresses .within))
+
+add-rank-of : tie.Need-add-rank-of
+unfolding wordEnd
+add-rank-of c = omega arith
 
 rank-of-requires : tie.Need-rank-of-requires
 rank-of-requires c κs = search needs
@@ -30,7 +30,7 @@ rank-of-requires c κs = search needs
 -- where the end of the places was found
 module _ (c : tie.After-rank-of) where
   abbrev entry : tie.Start
-  entry = c .before .before .before .before .before
+  entry = c .before .before .before .before .before .before
 
   abbrev high : ℕ
   high = rank (take (entry .args .count) (entry .args .addresses .now)) (entry .args .start + entry .args .n)
@@ -72,20 +72,19 @@ sub-new-2 c = let r = found c in omega arith
 
 move-contents-requires : tie.Need-move-contents-requires
 move-contents-requires c κs =
-    let f = c .before .before in
+    let f = c .before .before .before in
     let r = found f in
     let o = entry f .pre .0 in
-    (r .used, (omega (arith, o .level), λ t. o .markLevel t ∙ sym (o .level)))
+    (r .used, (omega (arith, o .level), (o .momentLevel ∙ sym (o .level), λ t. o .markLevel t ∙ sym (o .level))))
 
 move-up-requires : tie.Need-move-up-requires
-move-up-requires c κs = let r = found (c .before .before .before .before .before .before .before .before) in (r .used, omega arith)
+move-up-requires c κs = let r = found (c .before .before .before .before .before .before .before .before .before .before .before) in (r .used, omega arith)
 
 add-end : tie.Need-add-end
-add-end c = let r = found (c .before .before .before .before .before .before .before .before .before .before .before) in omega arith
+add-end c = let r = found (c .before .before .before .before .before .before .before .before .before .before .before .before .before .before) in omega arith
 
 mul-number-cells : tie.Need-mul-number-cells
-mul-number-cells c =
-    let r = found (c .before .before .before .before .before .before .before .before .before .before .before) in omega arith
+mul-number-cells c = let r = found (c .before .before .before .before .before .before .before .before .before .before .before .before .before .before) in omega arith
 
 sub-number-cells : tie.Need-sub-number-cells
 sub-number-cells c = search needs
@@ -94,16 +93,13 @@ part-number-cells-start : tie.Need-part-number-cells-start
 part-number-cells-start c = search needs
 
 part-number-cells-end : tie.Need-part-number-cells-end
-part-number-cells-end c =
-    let r = found (c .before .before .before .before .before .before .before .before .before .before .before) in omega arith
+part-number-cells-end c = let r = found (c .before .before .before .before .before .before .before .before .before .before .before .before .before .before) in omega arith
 
 number-cells-requires : tie.Need-number-cells-requires
 number-cells-requires c κs = search needs
 
 add-result : tie.Need-add-result
-add-result c =
-    let r = found (c .before .before .before .before .before .before .before .before .before .before .before .before .before .before .before) in
-    omega arith
+add-result c = let r = found (c .before .before .before .before .before .before .before .before .before .before .before .before .before .before .before .before .before .before) in omega arith
 
 same-length : tie.Need-same-length
 same-length c = search needs
@@ -114,13 +110,16 @@ same-length-2 c = search needs
 same-length-3 : tie.Need-same-length-3
 same-length-3 c = search needs
 
+same-length-4 : tie.Need-same-length-4
+same-length-4 c = search needs
+
 returns : tie.Need-returns
 returns c =
-    let f = c .before .before .before .before .before .before .before .before .before .before .before .before .before .before .before in
+    let f = c .before .before .before .before .before .before .before .before .before .before .before .before .before .before .before .before .before .before in
     let a = entry f .args in
     let r = found f in
     let e : a .low + a .n - a .low ≡ a .n = omega arith in
-    let m = c .before .before .before .before .before .before .before .before .before .before .before .before .move-contents .ensures in
+    let m = c .before .before .before .before .before .before .before .before .before .before .before .before .before .before .move-contents .ensures in
     let u = c .before .before .before .before .before .before .move-up in
     let w = c .before .before .number-cells in (
       omega arith,
@@ -129,7 +128,7 @@ returns c =
             e (omega arith) (omega arith) (omega arith) (moved-behind f (a .addresses .now) _ (u .ensures)) (w .ensures),
         (
           moved-behind f (a .numbers .now) _ (m .0),
-          marks-behind f (a .guarded) (a .marks .now) _ (m .1),
+          (moved-behind f (a .moments .now) _ (m .1 .0), marks-behind f (a .guarded) (a .marks .now) _ (m .1 .1)),
         ),
       ),
     )
@@ -156,4 +155,5 @@ insert-span-spec =
     same-length
     same-length-2
     same-length-3
+    same-length-4
     returns)
