@@ -7,18 +7,19 @@ use native.Mathlib.Omega.{arith}
 use lib.Dec.{leb, eqb}
 use lib.ListN.{getD, take}
 use borrow.Author.Tests.{leb-true, leb-false, eqb-true, eqb-false, le-leb, lt-leb}
+use Rattle.rules.specs.declared.Held.{Held}
 use Rattle.rules.specs.declared.Refusal.the-variants.{CellAbsent}
 use Rattle.rules.specs.Results.{refuse, pass, require}
-use Rattle.rules.specs.Memory.{Content, absent, present}
+use Rattle.rules.specs.Memory.{Content, absent, present, held}
 use Rattle.rules.specs.Cells.{Cells, get, numberCells, markCells}
 use Rattle.rules.specs.Step.{contentValue, readBelow}
 use Rattle.rules.specs.Guarded.{cellMark}
 use Rattle.rules.proofs.Laws.BoolLaws.{and-left, and-right}
 use Rattle.hardware.specs.declared.cells.Found.the-variants as Found
-use Rattle.hardware.specs.Buffers.{rank, foundOf, cellsOf, Rising, Ordered}
+use Rattle.hardware.specs.Buffers.{rank, foundOf, cellsOf, markCellsOf, Rising, Ordered}
 use Rattle.hardware.proofs.RankLaws.{rank-next}
 use Rattle.hardware.proofs.PlaceLaws.{found-at}
-use Rattle.hardware.proofs.BufferLaws.{found-present, found-other, found-end, get-found, get-absent}
+use Rattle.hardware.proofs.BufferLaws.{found-present, found-other, found-end, get-found, get-absent, mark-found}
 use Rattle.effects.specs.Effects.{SetRegister, Refuse}
 use Rattle.effects.specs.Changes.{onResult, sinkWhere, returnsFrom}
 
@@ -50,27 +51,27 @@ module _ (n : ℕ) (xs : List ℕ) (o : Rising n xs) (a i b : ℕ) (f : foundOf 
           let l = leb-false (i + 2) n e in
           sym (found-end n xs o b (i + 1) next-rank (omega arith))
 
-module _ (guarded : Bool) (n : ℕ) (xs ns ts : List ℕ) (o : Ordered guarded n xs ns ts) (r : ℕ) where
-  abbrev c : Cells ℕ
-  c = cellsOf n xs ns
+module _ (guarded : Bool) (n : ℕ) (xs ns ms ts : List ℕ) (o : Ordered guarded n xs ns ms ts) (r : ℕ) where
+  abbrev c : Cells Held
+  c = cellsOf n xs ns ms
 
   abbrev t : Cells ℕ
-  t = cellsOf n xs ts
+  t = markCellsOf n xs ts
 
-  below-present : (k i : ℕ) → k ≤ r → foundOf (take n xs) (r - k) ≡ Found.At i → readBelow numberCells c r k ≡ pass (getD ns i 0)
+  below-present : (k i : ℕ) → k ≤ r → foundOf (take n xs) (r - k) ≡ Found.At i → readBelow numberCells c r k ≡ pass (held (getD ns i 0) (getD ms i 0))
   unfolding require
-  below-present k i h f = rw (le-leb k r h, get-found n xs ns (o .addresses) (o .level) (r - k) i f)
+  below-present k i h f = rw (le-leb k r h, get-found n xs ns ms (o .addresses) (o .level) (o .momentLevel) (r - k) i f)
 
-  mark-found : (a i : ℕ) → foundOf (take n xs) a ≡ Found.At i → (guarded && cellMark markCells t a) ≡ (guarded && eqb (getD ts i 0) 1)
-  mark-found a i f = go guarded refl
+  mark-told : (a i : ℕ) → foundOf (take n xs) a ≡ Found.At i → (guarded && cellMark markCells t a) ≡ (guarded && eqb (getD ts i 0) 1)
+  mark-told a i f = go guarded refl
     where
       go : (s : Bool) → guarded ≡ s → (s && cellMark markCells t a) ≡ (s && eqb (getD ts i 0) 1)
-      go true e = rw (get-found n xs ts (o .addresses) (o .markLevel e) a i f)
+      go true e = rw (mark-found n xs ts (o .addresses) (o .markLevel e) a i f)
       go false e = refl
 
   below-absent : (k i : ℕ) → foundOf (take n xs) (r - k) ≡ Found.Absent i → readBelow numberCells c r k ≡ refuse CellAbsent
   unfolding require
-  below-absent k i f = rw (get-absent n xs ns (o .addresses) (o .level) (r - k) i f) (go (leb k r))
+  below-absent k i f = rw (get-absent n xs ns ms (o .addresses) (o .level) (o .momentLevel) (r - k) i f) (go (leb k r))
     where
       go : (s : Bool) → require s CellAbsent (contentValue numberCells absent) ≡ refuse CellAbsent
       go true = refl
@@ -86,7 +87,7 @@ module _ (guarded : Bool) (n : ℕ) (xs ns ts : List ℕ) (o : Ordered guarded n
   unfolding require onResult
   second-refuses e = rw e (go (leb 1 r) (get c (r - 1)))
     where
-      go : (s : Bool) (q : Content ℕ) → onResult (require s CellAbsent (contentValue numberCells q)) (λ pc. Refuse CellAbsent) ≡ Refuse CellAbsent
+      go : (s : Bool) (q : Content Held) → onResult (require s CellAbsent (contentValue numberCells q)) (λ pc. Refuse CellAbsent) ≡ Refuse CellAbsent
       go true absent = refl
       go true (present m) = refl
       go false q = refl
@@ -104,4 +105,4 @@ module _ (guarded : Bool) (n : ℕ) (xs ns ts : List ℕ) (o : Ordered guarded n
       ≡ sinkWhere (guarded && eqb (getD ts j 0) 1) (SetRegister 9 (getD ns i 0) (guarded && eqb (getD ts i 0) 1) (getD ns j 0))
   unfolding onResult
   both-present i j h f g =
-      rw (below-present 1 j (omega arith) g, below-present 2 i h f, mark-found (r - 1) j g, mark-found (r - 2) i f)
+      rw (below-present 1 j (omega arith) g, below-present 2 i h f, mark-told (r - 1) j g, mark-told (r - 2) i f)

@@ -8,7 +8,7 @@ use rules::Refusal;
 ghost use mathlib.Core.List.{List};
 ghost use Prim.Native.Nat.{ℕ, _-_};
 ghost use lib.ListN.{take};
-ghost use Rattle.hardware.specs.Buffers.{cellsOf, Rising, Ordered};
+ghost use Rattle.hardware.specs.Buffers.{cellsOf, markCellsOf, Rising, Ordered};
 ghost use Rattle.effects.specs.Effects.{Means};
 ghost use Rattle.effects.specs.Changes.{returnsFrom};
 ghost use Rattle.effects.specs.Operations.{withMark, hasCapacity, callsWhere};
@@ -32,12 +32,14 @@ pub fn return_from(
     count: usize,
     addresses: &[u64],
     numbers: &[u64],
+    moments: &[u64],
     marks: &[u64],
 ) -> Effect
-    requires { ⌜ Ordered guarded count (now addresses) (now numbers) (now marks) ⌝ }
+    requires { ⌜ Ordered guarded count (now addresses) (now numbers) (now moments) (now marks) ⌝ }
     ensures { λ r. ⌜ ((l : List ℕ)
-        → Means l r (λ t. withMark t (returnsFrom guarded (cellsOf count (now (addresses .entry)) (now (numbers .entry)))
-        (cellsOf count (now (addresses .entry)) (now (marks .entry))) r9))) ⌝ }
+        → Means l r (λ t. withMark t (returnsFrom guarded
+        (cellsOf count (now (addresses .entry)) (now (numbers .entry)) (now (moments .entry)))
+        (markCellsOf count (now (addresses .entry)) (now (marks .entry))) r9))) ⌝ }
 {
     if r9 < 2 {
         return Effect::refuse(Refusal::CellAbsent);
@@ -55,12 +57,9 @@ pub fn return_from(
                 }
             }
             let mark = guarded && cells::is_marked_at(at, marks);
-            Effect::set_register(
-                slots::R9,
-                cells::number_at(at, numbers),
-                mark,
-                cells::number_at(high, numbers),
-            )
+            let lower = cells::held_at(at, numbers, moments);
+            let upper = cells::held_at(high, numbers, moments);
+            Effect::set_register(slots::R9, lower.number, mark, upper.number)
         }
     }
 }

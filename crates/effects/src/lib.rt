@@ -50,7 +50,7 @@ pub enum EffectKind {
 // What a step does. One flat record for all kinds, so that it stays in the processor's registers: what a kind does not need is 0. `place`
 // is a register, or a place among cells or on the tape; `next` is the pc after the step; `flag` is the mark of a number from a cell, or of
 // op0 of a product, which counts only in a guarded run, or whether a call delegates; `op0` and `op1` are those of a product. A present
-// cell's address says only what is meant.
+// cell's address says only what is meant. The moment of what is stored is not here: it is the clk before the step.
 pub struct Effect {
     pub kind: EffectKind,
     pub place: usize,

@@ -11,7 +11,7 @@ ghost use mathlib.Core.List.{List};
 ghost use Prim.Native.Nat.{ℕ};
 ghost use lib.ListN.{take};
 ghost use Rattle.rules.specs.Step.{isStorable};
-ghost use Rattle.hardware.specs.Buffers.{cellsOf, cellOf, Rising, Ordered};
+ghost use Rattle.hardware.specs.Buffers.{cellsOf, markCellsOf, cellOf, Rising, Ordered};
 ghost use Rattle.effects.specs.Effects.{Means};
 ghost use Rattle.effects.specs.Operations.{withMark, loadsAt, storesAt, testOf, hasCapacity, storesWhere};
 
@@ -78,18 +78,25 @@ pub fn load(
     count: usize,
     addresses: &[u64],
     numbers: &[u64],
+    moments: &[u64],
     marks: &[u64],
 ) -> Effect
-    requires { ⌜ Ordered guarded count (now addresses) (now numbers) (now marks) ⌝ }
+    requires { ⌜ Ordered guarded count (now addresses) (now numbers) (now moments) (now marks) ⌝ }
     ensures { λ r. ⌜ ((l : List ℕ)
-        → Means l r (λ t. withMark t (loadsAt (cellOf guarded (cellsOf count (now (addresses .entry)) (now (numbers .entry)))
-        (cellsOf count (now (addresses .entry)) (now (marks .entry)))) address register next))) ⌝ }
+        → Means l r (λ t. withMark t (loadsAt
+        (cellOf guarded (cellsOf count (now (addresses .entry)) (now (numbers .entry)) (now (moments .entry)))
+        (markCellsOf count (now (addresses .entry)) (now (marks .entry)))) address register next))) ⌝ }
 {
     let FieldElement::Element(x) = address else {
         return Effect::refuse(Refusal::NotInField);
     };
-    match cells::read(guarded, count, x.value, addresses, numbers, marks) {
-        Cell::Present { number, marked } => Effect::set_register(register, number, marked, next),
+    match cells::read(guarded, count, x.value, addresses, numbers, moments, marks) {
+        Cell::Present { number, marked, .. } => Effect::set_register(
+            register,
+            number,
+            marked,
+            next,
+        ),
         Cell::Absent => Effect::refuse(Refusal::CellAbsent),
     }
 }

@@ -8,8 +8,10 @@ use lib.Dec.{eqb}
 use lib.ListN.{getD, take, length}
 use borrow.Author.Needs.{needs}
 use borrow.Author.Tests.{not-true, not-false}
+use Rattle.rules.specs.declared.Held.{Held}
+use Rattle.rules.specs.Memory.{held}
 use Rattle.hardware.specs.declared.cells.Found.the-variants.{At, Absent}
-use Rattle.hardware.specs.Buffers.{foundOf, cellsOf}
+use Rattle.hardware.specs.Buffers.{foundOf, cellsOf, markCellsOf}
 use Rattle.hardware.proofs.BufferLaws.{found-within}
 use Rattle.effects.specs.Effects.{SetRegister}
 use Rattle.effects.specs.Changes.{sinkWhere, returnsFrom}
@@ -20,7 +22,7 @@ use Rattle.effects.proofs.calls.return_from.Tie as tie
 -- where the lower cell was found
 module _ (c : tie.After-known-told) where
   abbrev entry : tie.Start
-  entry = c .before .before .before .before .before .before .before .before
+  entry = c .before .before .before .before .before .before .before .before .before
 
   abbrev place : ℕ
   place = c .before .at .given .0 .0
@@ -71,17 +73,20 @@ module _ (c : tie.Else2) where
   upper-numbered : place (found k) + 1 < length (s k .args .numbers .now)
   upper-numbered = omega (arith, upper-used, s k .pre .addresses .within, s k .pre .level)
 
+  upper-dated : place (found k) + 1 < length (s k .args .moments .now)
+  upper-dated = omega (arith, upper-used, s k .pre .addresses .within, s k .pre .momentLevel)
+
   upper-markable : s k .args .guarded ≡ true → place (found k) + 1 < length (s k .args .marks .now)
   upper-markable g = omega (arith, upper-used, s k .pre .addresses .within, s k .pre .markLevel g)
 
   -- what both cells say
   returned : let a = s k .args in let i = place (found k) in
-      returnsFrom (a .guarded) (cellsOf (a .count) (a .addresses .now) (a .numbers .now)) (cellsOf (a .count) (a .addresses .now) (a .marks .now)) (a .r9)
+      returnsFrom (a .guarded) (cellsOf (a .count) (a .addresses .now) (a .numbers .now) (a .moments .now)) (markCellsOf (a .count) (a .addresses .now) (a .marks .now)) (a .r9)
       ≡ sinkWhere (a .guarded && eqb (getD (a .marks .now) (i + 1) 0) 1)
       (SetRegister 9 (getD (a .numbers .now) i 0) (a .guarded && eqb (getD (a .marks .now) i 0) 1) (getD (a .numbers .now) (i + 1) 0))
   returned =
       let a = s k .args in
-      both-present (a .guarded) (a .count) (a .addresses .now) (a .numbers .now) (a .marks .now) (s k .pre) (a .r9)
+      both-present (a .guarded) (a .count) (a .addresses .now) (a .numbers .now) (a .moments .now) (a .marks .now) (s k .pre) (a .r9)
       (place (found k)) (place (found k) + 1) (two-below (found k)) (at-place (found k)) at-upper
 
 refuse-requires : tie.Need-refuse-requires
@@ -89,9 +94,9 @@ refuse-requires c κs = search needs
 
 returns : tie.Need-returns
 returns c =
-    let s = c .before .before .before .before .before in
+    let s = c .before .before .before .before .before .before in
     let a = s .args in
-    rw (no-second (a .guarded) (a .count) (a .addresses .now) (a .numbers .now) (a .marks .now) (s .pre) (a .r9) (c .before .if1 .taken))
+    rw (no-second (a .guarded) (a .count) (a .addresses .now) (a .numbers .now) (a .moments .now) (a .marks .now) (s .pre) (a .r9) (c .before .if1 .taken))
     (c .refuse .ensures)
 
 find-requires : tie.Need-find-requires
@@ -120,7 +125,7 @@ returns-2 c =
     let k = c .before .before in
     let a = s k .args in
     let e = absent-next k (not-true (k .is-next .result) (c .before .if2 .taken)) in
-    rw (first-absent (a .guarded) (a .count) (a .addresses .now) (a .numbers .now) (a .marks .now) (s k .pre) (a .r9) (place (found k) + 1) e)
+    rw (first-absent (a .guarded) (a .count) (a .addresses .now) (a .numbers .now) (a .moments .now) (a .marks .now) (s k .pre) (a .r9) (place (found k) + 1) e)
     (c .refuse3 .ensures)
 
 add-high : tie.Need-add-high
@@ -145,21 +150,21 @@ returns-3 c =
 is-marked-at-requires-2 : tie.Need-is-marked-at-requires-2
 is-marked-at-requires-2 c κs = let h = upper-markable (c .before .before) (c .if5 .taken) in omega arith
 
-number-at-requires : tie.Need-number-at-requires
-number-at-requires c κs = let h = upper-numbered (c .before .before) in omega arith
+held-at-requires : tie.Need-held-at-requires
+held-at-requires c κs = let h = upper-numbered (c .before .before) in let k = upper-dated (c .before .before) in (omega arith, omega arith)
 
-number-at-requires-2 : tie.Need-number-at-requires-2
-number-at-requires-2 c κs = upper-numbered (c .before .before .before)
+held-at-requires-2 : tie.Need-held-at-requires-2
+held-at-requires-2 c κs = (upper-numbered (c .before .before .before), upper-dated (c .before .before .before))
 
 set-register-requires : tie.Need-set-register-requires
 set-register-requires c κs = search needs
 
 returns-4 : tie.Need-returns-4
 returns-4 c =
-    let s = c .before .before .before .before .before .before .before .before in
+    let s = c .before .before .before .before .before .before .before .before .before in
     let a = s .args in
     let e = sym (c .before .before .before .find .ensures) ∙ c .before .enum-told .given .1 in
-    rw (second-absent (a .guarded) (a .count) (a .addresses .now) (a .numbers .now) (a .marks .now) (s .pre) (a .r9) _ e) (c .refuse2 .ensures)
+    rw (second-absent (a .guarded) (a .count) (a .addresses .now) (a .numbers .now) (a .moments .now) (a .marks .now) (s .pre) (a .r9) _ e) (c .refuse2 .ensures)
 
 -- the upper cell is not marked, in a guarded run
 clean : (c : tie.Joined3) → let k = found (c .before .before) in
@@ -178,11 +183,14 @@ lower c =
     ⊎-elim (λ w. w .2 ∙ w .1 .ensures ∙ sym (ap (λ t. t && x) (w .0 .taken)))
     (λ w. w .1 ∙ w .0 .left ∙ sym (ap (λ t. t && x) (w .0 .left))) (c .if5 .came)
 
+number-of : {h : Held} {n m : ℕ} → h ≡ held n m → h .number ≡ n
+number-of e = ap (λ h. h .number) e
+
 returns-5 : tie.Need-returns-5
 unfolding sinkWhere
 returns-5 c =
     let j = c .before .before .before in
-    rw (returned (j .before .before), clean (j .before), ← lower j, ← c .before .before .number-at .ensures, ← c .before .number-at2 .ensures)
+    rw (returned (j .before .before), clean (j .before), ← lower j, ← number-of (c .before .before .held-at .ensures), ← number-of (c .before .held-at2 .ensures))
     (c .set-register .ensures)
 
 pub return-from-spec : {M : Type 1} → statement M
@@ -204,8 +212,8 @@ return-from-spec =
     sink-requires
     returns-3
     is-marked-at-requires-2
-    number-at-requires
-    number-at-requires-2
+    held-at-requires
+    held-at-requires-2
     set-register-requires
     returns-4
     returns-5)
