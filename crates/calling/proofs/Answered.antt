@@ -20,11 +20,11 @@ use Rattle.checking.specs.ModeCalls.{modeEntry, modeCall}
 
 -- A call refused at entry
 
-pub refused-is : (r : Ran) (f : Refusal) (m : Machine) (extras : Marks) (xs ns ts tape output : List ℕ)
+pub refused-is : (r : Ran) (f : Refusal) (m : Machine) (extras : Marks) (xs ns ms ts tape output : List ℕ)
     → r ≡ record { answer = Refused f; steps = 0; machine = m; extras = extras }
-    → guardedCalled r xs ns ts tape output ≡ refusedCall f (guardedSnapshot m extras xs ns ts tape output)
+    → guardedCalled r xs ns ms ts tape output ≡ refusedCall f (guardedSnapshot m extras xs ns ms ts tape output)
 unfolding meaning
-refused-is r f m extras xs ns ts tape output e = ap (λ (x : Ran). guardedCalled x xs ns ts tape output) e
+refused-is r f m extras xs ns ms ts tape output e = ap (λ (x : Ran). guardedCalled x xs ns ms ts tape output) e
 
 -- by either call
 refused-call : (budget : ℕ) (g : GuardedSnapshot) (guarded : Bool) (f : Refusal) → refusedCall f g ≡ modeCall guarded (refuse f) budget g

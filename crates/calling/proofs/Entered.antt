@@ -1,35 +1,22 @@
 -- A run by mode: what passed the entry's tests may run, and what the run gives is the call's answer.
-use Prim.Native.Nat.{ℕ, suc, _<_}
+use Prim.Native.Nat.{ℕ}
 use mathlib.Core.Path.{_≡_, refl, sym, _∙_}
 use mathlib.Core.Bool.{Bool, true, false}
 use mathlib.Core.List.{List, []}
-use native.Mathlib.Omega.{arith}
-use lib.Dec.{ltb}
-use borrow.Author.Tests.{ltb-true}
 use Rattle.rules.specs.declared.Instruction.{Instruction}
 use Rattle.rules.specs.declared.Marks.{Marks}
 use Rattle.rules.specs.declared.Ran.{Ran}
-use Rattle.rules.specs.Numbers.{clockEnd, wordEnd}
 use Rattle.rules.specs.Results.{pass}
-use Rattle.rules.specs.Entry.{Snapshot, GuardedSnapshot, plainEntry, marksEntry, guardedEntry, all}
+use Rattle.rules.specs.Entry.{GuardedSnapshot, plainEntry, marksEntry, guardedEntry}
 use Rattle.rules.specs.Calls.{Called, plainRunOf, plainAnswered, guardedRunOf, guardedAnswered, plainCall, guardedCall}
 use Rattle.rules.specs.Handed.{guardedSnapshot, guardedCalled}
-use Rattle.rules.proofs.Laws.BoolLaws.{false-true, and-right}
+use Rattle.rules.proofs.Laws.BoolLaws.{false-true}
 use Rattle.rules.proofs.Laws.EntryLaws.{all-at}
-use Rattle.interpreter.specs.Runs.{atClock, PassedEntry, Runs}
+use Rattle.interpreter.specs.Runs.{PassedEntry, Runs}
 use Rattle.interpreter.proofs.BothRuns.{runs-guarded, runs-plain}
 use Rattle.checking.specs.ModeCalls.{modeEntry, modeCall, callBeside}
 
 -- What passed the tests
-
--- the test of the clock is the first
-other-clock : (s : Snapshot) → plainEntry s ≡ true → plainEntry (atClock 0 s) ≡ true
-unfolding plainEntry all clockEnd
-other-clock s h = and-right (ltb (s .machine .clk) clockEnd) _ h
-
-clock-below : (s : Snapshot) → plainEntry s ≡ true → suc (s .machine .clk) < wordEnd
-unfolding plainEntry clockEnd wordEnd
-clock-below s h = let l = ltb-true (s .machine .clk) clockEnd (all-at _ h 0) in omega arith
 
 module _ (g : GuardedSnapshot) where
   state-fits : (guarded : Bool) → modeEntry guarded g ≡ true → plainEntry (g .plain) ≡ true
@@ -51,8 +38,7 @@ module _ (g : GuardedSnapshot) (guarded known : Bool) (e : guarded ≡ known) (e
   pub passed : PassedEntry (record { guarded = known; extras = extras }) g
   passed =
       record {
-        plain = other-clock (g .plain) (state-fits g guarded h);
-        clock = clock-below (g .plain) (state-fits g guarded h);
+        plain = state-fits g guarded h;
         guarded = λ t. marks-fit g guarded (e ∙ t) h;
         unmarked = λ f. u (e ∙ f);
       }
@@ -73,15 +59,15 @@ module _ (program : List Instruction) (budget : ℕ) (g : GuardedSnapshot) (c : 
   answered-plain false e h k = rw h k
 
 module _ (g : GuardedSnapshot) (guarded : Bool) (extras : Marks) (h : modeEntry guarded g ≡ true) (program : List Instruction) (budget : ℕ) (r : Ran)
-    (xs ns ts tape output : List ℕ) where
+    (xs ns ms ts tape output : List ℕ) where
   abbrev left : GuardedSnapshot
-  left = guardedSnapshot (r .machine) (r .extras) xs ns ts tape output
+  left = guardedSnapshot (r .machine) (r .extras) xs ns ms ts tape output
 
   pub entered-guarded : guarded ≡ true → Runs (record { guarded = true; extras = extras }) program budget g r left
-      → guardedCalled r xs ns ts tape output ≡ modeCall guarded (pass program) budget g
-  entered-guarded e k = answered-guarded program budget g (guardedCalled r xs ns ts tape output) guarded e h (runs-guarded (record { guarded = true; extras = extras }) program budget g r left k refl)
+      → guardedCalled r xs ns ms ts tape output ≡ modeCall guarded (pass program) budget g
+  entered-guarded e k = answered-guarded program budget g (guardedCalled r xs ns ms ts tape output) guarded e h (runs-guarded (record { guarded = true; extras = extras }) program budget g r left k refl)
 
   pub entered-plain : guarded ≡ false → (guarded ≡ false → NoMarks g) → Runs (record { guarded = false; extras = extras }) program budget g r left
-      → guardedCalled r xs ns ts tape output ≡ modeCall guarded (pass program) budget g
+      → guardedCalled r xs ns ms ts tape output ≡ modeCall guarded (pass program) budget g
   entered-plain e u k =
-      answered-plain program budget g (guardedCalled r xs ns ts tape output) guarded e h (runs-plain (record { guarded = false; extras = extras }) program budget g r left k refl (u e))
+      answered-plain program budget g (guardedCalled r xs ns ms ts tape output) guarded e h (runs-plain (record { guarded = false; extras = extras }) program budget g r left k refl (u e))

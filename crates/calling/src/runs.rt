@@ -46,6 +46,7 @@ fn enter(
     machine: Machine,
     addresses: &mut [u64],
     numbers: &mut [u64],
+    moments: &mut [u64],
     marks: &mut [u64],
     tape: &mut [u64],
     output: &mut [u64],
@@ -54,13 +55,22 @@ fn enter(
     requires { ⌜ Loaded (now words) (now rows) ⌝ }
     requires { ⌜ wordSlot + length (now words) ≤ length (now values) ⌝ }
     requires { ⌜ PlainHasNoMarks mode (now marks) ⌝ }
-    ensures { λ r. ⌜ guardedCalled r (now (addresses .exit)) (now (numbers .exit)) (now (marks .exit))
+    ensures { λ r. ⌜ guardedCalled r (now (addresses .exit)) (now (numbers .exit)) (now (moments .exit)) (now (marks .exit))
         (now (tape .exit)) (now (output .exit))
         ≡ modeCall (mode .guarded) (pass (programOf (now (words .entry)))) budget
-        (handed mode machine (now (addresses .entry)) (now (numbers .entry)) (now (marks .entry))
+        (handed mode machine (now (addresses .entry)) (now (numbers .entry)) (now (moments .entry)) (now (marks .entry))
         (now (tape .entry)) (now (output .entry))) ⌝ }
 {
-    if checking::accepts(mode, machine, addresses, numbers, marks, tape, output) {
+    if checking::accepts(
+        mode,
+        machine,
+        addresses,
+        numbers,
+        moments,
+        marks,
+        tape,
+        output,
+    ) {
         let extras = mode.extras;
         if mode.guarded {
             let guarded = Mode {
@@ -75,6 +85,7 @@ fn enter(
                 machine,
                 addresses,
                 numbers,
+                moments,
                 marks,
                 tape,
                 output,
@@ -93,6 +104,7 @@ fn enter(
             machine,
             addresses,
             numbers,
+            moments,
             marks,
             tape,
             output,
@@ -110,6 +122,7 @@ fn load_and_enter(
     machine: Machine,
     addresses: &mut [u64],
     numbers: &mut [u64],
+    moments: &mut [u64],
     marks: &mut [u64],
     tape: &mut [u64],
     output: &mut [u64],
@@ -119,10 +132,10 @@ fn load_and_enter(
     requires { ⌜ EmptyRows (now words) (now rows) ⌝ }
     requires { ⌜ (length (now words) ≤ wordLimit → wordSlot + length (now words) ≤ length (now values)) ⌝ }
     requires { ⌜ PlainHasNoMarks mode (now marks) ⌝ }
-    ensures { λ r. ⌜ guardedCalled r (now (addresses .exit)) (now (numbers .exit)) (now (marks .exit))
+    ensures { λ r. ⌜ guardedCalled r (now (addresses .exit)) (now (numbers .exit)) (now (moments .exit)) (now (marks .exit))
         (now (tape .exit)) (now (output .exit))
         ≡ modeCall (mode .guarded) (loadWords (now (words .entry))) budget
-        (handed mode machine (now (addresses .entry)) (now (numbers .entry)) (now (marks .entry))
+        (handed mode machine (now (addresses .entry)) (now (numbers .entry)) (now (moments .entry)) (now (marks .entry))
         (now (tape .entry)) (now (output .entry))) ⌝ }
 {
     match table::load_words(words, rows) {
@@ -134,6 +147,7 @@ fn load_and_enter(
             machine,
             addresses,
             numbers,
+            moments,
             marks,
             tape,
             output,
@@ -151,15 +165,16 @@ pub fn run_words(
     machine: Machine,
     addresses: &mut [u64],
     numbers: &mut [u64],
+    moments: &mut [u64],
     marks: &mut [u64],
     tape: &mut [u64],
     output: &mut [u64],
 ) -> Ran
     requires { ⌜ PlainHasNoMarks mode (now marks) ⌝ }
-    ensures { λ r. ⌜ guardedCalled r (now (addresses .exit)) (now (numbers .exit)) (now (marks .exit))
+    ensures { λ r. ⌜ guardedCalled r (now (addresses .exit)) (now (numbers .exit)) (now (moments .exit)) (now (marks .exit))
         (now (tape .exit)) (now (output .exit))
         ≡ modeCall (mode .guarded) (loadWords (now (words .entry))) budget
-        (handed mode machine (now (addresses .entry)) (now (numbers .entry)) (now (marks .entry))
+        (handed mode machine (now (addresses .entry)) (now (numbers .entry)) (now (moments .entry)) (now (marks .entry))
         (now (tape .entry)) (now (output .entry))) ⌝ }
 {
     if words.len() <= table::TINY_WORDS {
@@ -172,6 +187,7 @@ pub fn run_words(
             machine,
             addresses,
             numbers,
+            moments,
             marks,
             tape,
             output,
@@ -189,6 +205,7 @@ pub fn run_words(
             machine,
             addresses,
             numbers,
+            moments,
             marks,
             tape,
             output,
@@ -205,6 +222,7 @@ pub fn run_words(
         machine,
         addresses,
         numbers,
+        moments,
         marks,
         tape,
         output,
@@ -221,15 +239,16 @@ pub fn run_text(
     machine: Machine,
     addresses: &mut [u64],
     numbers: &mut [u64],
+    moments: &mut [u64],
     marks: &mut [u64],
     tape: &mut [u64],
     output: &mut [u64],
 ) -> Ran
     requires { ⌜ PlainHasNoMarks mode (now marks) ⌝ }
-    ensures { λ r. ⌜ guardedCalled r (now (addresses .exit)) (now (numbers .exit)) (now (marks .exit))
+    ensures { λ r. ⌜ guardedCalled r (now (addresses .exit)) (now (numbers .exit)) (now (moments .exit)) (now (marks .exit))
         (now (tape .exit)) (now (output .exit))
         ≡ modeCall (mode .guarded) (loadText (now (text .entry))) budget
-        (handed mode machine (now (addresses .entry)) (now (numbers .entry)) (now (marks .entry))
+        (handed mode machine (now (addresses .entry)) (now (numbers .entry)) (now (moments .entry)) (now (marks .entry))
         (now (tape .entry)) (now (output .entry))) ⌝ }
 {
     let mut words = [0u64; binary_program::WORD_LIMIT];
@@ -244,6 +263,7 @@ pub fn run_text(
             machine,
             addresses,
             numbers,
+            moments,
             marks,
             tape,
             output,
@@ -259,15 +279,16 @@ pub fn run_budget_text(
     machine: Machine,
     addresses: &mut [u64],
     numbers: &mut [u64],
+    moments: &mut [u64],
     marks: &mut [u64],
     tape: &mut [u64],
     output: &mut [u64],
 ) -> Ran
     requires { ⌜ PlainHasNoMarks mode (now marks) ⌝ }
-    ensures { λ r. ⌜ guardedCalled r (now (addresses .exit)) (now (numbers .exit)) (now (marks .exit))
+    ensures { λ r. ⌜ guardedCalled r (now (addresses .exit)) (now (numbers .exit)) (now (moments .exit)) (now (marks .exit))
         (now (tape .exit)) (now (output .exit))
         ≡ modeCall (mode .guarded) (jobProgram (loadBudgetText (now (text .entry)))) (jobBudget (loadBudgetText (now (text .entry))))
-        (handed mode machine (now (addresses .entry)) (now (numbers .entry)) (now (marks .entry))
+        (handed mode machine (now (addresses .entry)) (now (numbers .entry)) (now (moments .entry)) (now (marks .entry))
         (now (tape .entry)) (now (output .entry))) ⌝ }
 {
     let mut words = [0u64; binary_program::WORD_LIMIT];
@@ -283,6 +304,7 @@ pub fn run_budget_text(
             machine,
             addresses,
             numbers,
+            moments,
             marks,
             tape,
             output,

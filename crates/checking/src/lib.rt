@@ -26,16 +26,17 @@ pub fn accepts(
     machine: Machine,
     addresses: &[u64],
     numbers: &[u64],
+    moments: &[u64],
     marks: &[u64],
     tape: &[u64],
     output: &[u64],
 ) -> bool
     ensures { λ r. ⌜ r
         ≡ modeEntry (mode .guarded)
-        (handed mode machine (now (addresses .entry)) (now (numbers .entry)) (now (marks .entry))
+        (handed mode machine (now (addresses .entry)) (now (numbers .entry)) (now (moments .entry)) (now (marks .entry))
         (now (tape .entry)) (now (output .entry))) ⌝ }
 {
-    if !entry::accepts(machine, addresses, numbers, tape, output) {
+    if !entry::accepts(machine, addresses, numbers, moments, tape, output) {
         return false;
     }
     if mode.guarded {
@@ -51,18 +52,29 @@ fn entry_answer(
     machine: Machine,
     addresses: &[u64],
     numbers: &[u64],
+    moments: &[u64],
     marks: &[u64],
     tape: &[u64],
     output: &[u64],
 ) -> Answer
     ensures { λ r. ⌜ ((loaded : Result (List Instruction)) → checkMeaning checked ≡ checkMeaning (checkedOf loaded)
         → meaning r ≡ modeCall (mode .guarded) loaded 0
-        (handed mode machine (now (addresses .entry)) (now (numbers .entry)) (now (marks .entry)) (now (tape .entry)) (now (output .entry)))
+        (handed mode machine (now (addresses .entry)) (now (numbers .entry)) (now (moments .entry)) (now (marks .entry))
+        (now (tape .entry)) (now (output .entry)))
         .answer) ⌝ }
 {
     match checked {
         Checked::Frames(_) => {
-            if accepts(mode, machine, addresses, numbers, marks, tape, output) {
+            if accepts(
+                mode,
+                machine,
+                addresses,
+                numbers,
+                moments,
+                marks,
+                tape,
+                output,
+            ) {
                 return Answer::Paused;
             }
             Answer::Refused(Refusal::BadState)
@@ -78,13 +90,15 @@ pub fn check_words(
     machine: Machine,
     addresses: &[u64],
     numbers: &[u64],
+    moments: &[u64],
     marks: &[u64],
     tape: &[u64],
     output: &[u64],
 ) -> Answer
     ensures { λ r. ⌜ meaning r
         ≡ modeCall (mode .guarded) (loadWords (now (words .entry))) 0
-        (handed mode machine (now (addresses .entry)) (now (numbers .entry)) (now (marks .entry)) (now (tape .entry)) (now (output .entry)))
+        (handed mode machine (now (addresses .entry)) (now (numbers .entry)) (now (moments .entry)) (now (marks .entry))
+        (now (tape .entry)) (now (output .entry)))
         .answer ⌝ }
 {
     let checked = table::check_words(words);
@@ -94,6 +108,7 @@ pub fn check_words(
         machine,
         addresses,
         numbers,
+        moments,
         marks,
         tape,
         output,
@@ -107,13 +122,15 @@ pub fn check_text(
     machine: Machine,
     addresses: &[u64],
     numbers: &[u64],
+    moments: &[u64],
     marks: &[u64],
     tape: &[u64],
     output: &[u64],
 ) -> Answer
     ensures { λ r. ⌜ meaning r
         ≡ modeCall (mode .guarded) (loadText (now (text .entry))) 0
-        (handed mode machine (now (addresses .entry)) (now (numbers .entry)) (now (marks .entry)) (now (tape .entry)) (now (output .entry)))
+        (handed mode machine (now (addresses .entry)) (now (numbers .entry)) (now (moments .entry)) (now (marks .entry))
+        (now (tape .entry)) (now (output .entry)))
         .answer ⌝ }
 {
     let checked = program_text::check_text(text);
@@ -123,6 +140,7 @@ pub fn check_text(
         machine,
         addresses,
         numbers,
+        moments,
         marks,
         tape,
         output,
@@ -136,13 +154,15 @@ pub fn check_budget_text(
     machine: Machine,
     addresses: &[u64],
     numbers: &[u64],
+    moments: &[u64],
     marks: &[u64],
     tape: &[u64],
     output: &[u64],
 ) -> Answer
     ensures { λ r. ⌜ meaning r
         ≡ modeCall (mode .guarded) (jobProgram (loadBudgetText (now (text .entry)))) 0
-        (handed mode machine (now (addresses .entry)) (now (numbers .entry)) (now (marks .entry)) (now (tape .entry)) (now (output .entry)))
+        (handed mode machine (now (addresses .entry)) (now (numbers .entry)) (now (moments .entry)) (now (marks .entry))
+        (now (tape .entry)) (now (output .entry)))
         .answer ⌝ }
 {
     let checked = program_text::check_budget_text(text);
@@ -152,6 +172,7 @@ pub fn check_budget_text(
         machine,
         addresses,
         numbers,
+        moments,
         marks,
         tape,
         output,

@@ -8,7 +8,7 @@ use lib.ListN.{length, getD}
 use borrow.Author.Tests.{lt-ltb, le-ltb, le-leb, lt-leb, eq-eqb, ne-eqb}
 use Rattle.rules.specs.Numbers.{clockEnd, cellLimit, valueLimit, marksEnd}
 use Rattle.rules.specs.Step.{isStorable}
-use Rattle.rules.specs.Entry.{Snapshot, GuardedSnapshot, usedAddresses, usedNumbers, usedMarks, markedRegisters, markedCells, every, risingFrom, markedBelow, all, plainEntry, markedNumbersBelow, marksEntry}
+use Rattle.rules.specs.Entry.{Snapshot, GuardedSnapshot, usedAddresses, usedNumbers, usedMoments, usedMarks, markedRegisters, markedCells, every, risingFrom, markedBelow, all, plainEntry, markedNumbersBelow, marksEntry}
 use Rattle.rules.proofs.Laws.BoolLaws.{false-true, and-with-true}
 use Rattle.rules.proofs.Laws.EntryLaws.{all-none, all-more}
 
@@ -52,45 +52,57 @@ module _ (s : Snapshot) where
   unfolding plainEntry
   numbers-uneven h = all-fails _ 4 (ne-eqb _ _ h)
 
+  pub moments-uneven : (length (s .moments) ≡ length (s .addresses) → ⊥) → plainEntry s ≡ false
+  unfolding plainEntry
+  moments-uneven h = all-fails _ 5 (ne-eqb _ _ h)
+
   pub cells-long : cellLimit < length (s .addresses) → plainEntry s ≡ false
   unfolding plainEntry
-  cells-long h = all-fails _ 5 (lt-leb _ _ h)
+  cells-long h = all-fails _ 6 (lt-leb _ _ h)
 
   pub tape-long : valueLimit < length (s .tape) → plainEntry s ≡ false
   unfolding plainEntry
-  tape-long h = all-fails _ 6 (lt-leb _ _ h)
+  tape-long h = all-fails _ 7 (lt-leb _ _ h)
 
   pub output-long : valueLimit < length (s .output) → plainEntry s ≡ false
   unfolding plainEntry
-  output-long h = all-fails _ 7 (lt-leb _ _ h)
+  output-long h = all-fails _ 8 (lt-leb _ _ h)
 
   pub not-rising : risingFrom 0 (usedAddresses s) ≡ false → plainEntry s ≡ false
   unfolding plainEntry
-  not-rising h = all-fails _ 8 h
+  not-rising h = all-fails _ 9 h
 
-  pub numbers-decide : {r : Bool}
+  pub number-above : every isStorable (usedNumbers s) ≡ false → plainEntry s ≡ false
+  unfolding plainEntry
+  number-above h = all-fails _ 10 h
+
+  pub moments-decide : {r : Bool}
       → s .machine .clk < clockEnd
       → s .machine .«cell_count» ≤ length (s .addresses)
       → s .machine .«tape_count» ≤ length (s .tape)
       → s .machine .«output_count» ≤ length (s .output)
       → length (s .numbers) ≡ length (s .addresses)
+      → length (s .moments) ≡ length (s .addresses)
       → length (s .addresses) ≤ cellLimit
       → length (s .tape) ≤ valueLimit
       → length (s .output) ≤ valueLimit
       → risingFrom 0 (usedAddresses s) ≡ true
-      → r ≡ every isStorable (usedNumbers s)
+      → every isStorable (usedNumbers s) ≡ true
+      → r ≡ every (λ t. leb t (s .machine .clk)) (usedMoments s)
       → r ≡ plainEntry s
   unfolding plainEntry
-  numbers-decide clock cells tape output even cells-few tape-few output-few rising numbers =
+  moments-decide clock cells tape output numbers-even moments-even cells-few tape-few output-few rising numbers moments =
       all-next _ (lt-ltb _ _ clock)
       (all-next _ (le-leb _ _ cells)
       (all-next _ (le-leb _ _ tape)
       (all-next _ (le-leb _ _ output)
-      (all-next _ (eq-eqb _ _ even)
+      (all-next _ (eq-eqb _ _ numbers-even)
+      (all-next _ (eq-eqb _ _ moments-even)
       (all-next _ (le-leb _ _ cells-few)
       (all-next _ (le-leb _ _ tape-few)
       (all-next _ (le-leb _ _ output-few)
-      (all-next _ rising (all-decides _ numbers all-none)))))))))
+      (all-next _ rising
+      (all-next _ numbers (all-decides _ moments all-none)))))))))))
 
 -- The marks
 

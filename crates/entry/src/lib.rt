@@ -116,11 +116,13 @@ pub fn accepts(
     machine: Machine,
     addresses: &[u64],
     numbers: &[u64],
+    moments: &[u64],
     tape: &[u64],
     output: &[u64],
 ) -> bool
     ensures { λ r. ⌜ r
-        ≡ plainEntry (snapshot machine (now (addresses .entry)) (now (numbers .entry)) (now (tape .entry)) (now (output .entry))) ⌝ }
+        ≡ plainEntry (snapshot machine (now (addresses .entry)) (now (numbers .entry)) (now (moments .entry))
+        (now (tape .entry)) (now (output .entry))) ⌝ }
 {
     if clock::CLOCK_END <= machine.clk {
         return false;
@@ -137,6 +139,9 @@ pub fn accepts(
     if numbers.len() != addresses.len() {
         return false;
     }
+    if moments.len() != addresses.len() {
+        return false;
+    }
     if CELL_LIMIT < addresses.len() {
         return false;
     }
@@ -149,10 +154,13 @@ pub fn accepts(
     if !rising(used(machine.cell_count, addresses)) {
         return false;
     }
-    at_most(Cell::LARGEST, used(machine.cell_count, numbers))
+    if !at_most(Cell::LARGEST, used(machine.cell_count, numbers)) {
+        return false;
+    }
+    at_most(machine.clk, used(machine.cell_count, moments))
 }
 
-// Do the marks pass? Tape and output do not matter.
+// Do the marks pass? Moments, tape and output do not matter.
 pub fn accepts_marks(
     machine: Machine,
     extras: Marks,
@@ -160,8 +168,9 @@ pub fn accepts_marks(
     numbers: &[u64],
     marks: &[u64],
 ) -> bool
-    ensures { λ r. ⌜ ((tape output : List ℕ) → r
-        ≡ marksEntry (guardedSnapshot machine extras (now (addresses .entry)) (now (numbers .entry)) (now (marks .entry)) tape output)) ⌝ }
+    ensures { λ r. ⌜ ((moments tape output : List ℕ) → r
+        ≡ marksEntry (guardedSnapshot machine extras (now (addresses .entry)) (now (numbers .entry)) moments (now (marks .entry))
+        tape output)) ⌝ }
 {
     if marks.len() != addresses.len() {
         return false;

@@ -22,9 +22,9 @@ module _ {mode : Mode} (program : Result (List Instruction)) (budget : ℕ) (f :
     in-mode : modeCall (mode .guarded) program budget (f (mode .extras)) ≡ modeCall false program budget (f noMarks)
     in-mode = ap (λ (m : Mode). modeCall (m .guarded) program budget (f (m .extras))) e
 
-    pub as-plain : (r : Ran) {xs ns ts tape output : List ℕ}
-        → guardedCalled r xs ns ts tape output ≡ modeCall (mode .guarded) program budget (f (mode .extras))
-        → (called r xs ns tape output ≡ plainCall program budget (f noMarks .plain)) × (r .extras ≡ f noMarks .extras)
+    pub as-plain : (r : Ran) {xs ns ms ts tape output : List ℕ}
+        → guardedCalled r xs ns ms ts tape output ≡ modeCall (mode .guarded) program budget (f (mode .extras))
+        → (called r xs ns ms tape output ≡ plainCall program budget (f noMarks .plain)) × (r .extras ≡ f noMarks .extras)
     unfolding modeCall
     as-plain r h = (ap withoutMarks (h ∙ in-mode), ap (λ (c : Called GuardedSnapshot). c .left .extras) (h ∙ in-mode))
 
@@ -34,9 +34,9 @@ module _ {mode : Mode} (program : Result (List Instruction)) (budget : ℕ) (f :
     checks-plain h = h ∙ ap (λ (c : Called GuardedSnapshot). c .answer) in-mode
 
   module _ {extras : Marks} (e : mode ≡ record { guarded = true; extras = extras }) where
-    pub as-guarded : (r : Ran) {xs ns ts tape output : List ℕ}
-        → guardedCalled r xs ns ts tape output ≡ modeCall (mode .guarded) program budget (f (mode .extras))
-        → guardedCalled r xs ns ts tape output ≡ guardedCall program budget (f extras)
+    pub as-guarded : (r : Ran) {xs ns ms ts tape output : List ℕ}
+        → guardedCalled r xs ns ms ts tape output ≡ modeCall (mode .guarded) program budget (f (mode .extras))
+        → guardedCalled r xs ns ms ts tape output ≡ guardedCall program budget (f extras)
     unfolding modeCall
     as-guarded r h = h ∙ ap (λ (m : Mode). modeCall (m .guarded) program budget (f (m .extras))) e
 

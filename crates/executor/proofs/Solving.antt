@@ -20,30 +20,30 @@ use Rattle.report.specs.ReportLines.{reported}
 use Rattle.rules.specs.Handed.{snapshot, called}
 
 starts : (m : Machine) → m ≡ solveStart .machine
-    → snapshot m (replicate 2048 0) (replicate 2048 0) (replicate 4096 0) (replicate 4096 0) ≡ solveStart
+    → snapshot m (replicate 2048 0) (replicate 2048 0) (replicate 2048 0) (replicate 4096 0) (replicate 4096 0) ≡ solveStart
 unfolding solveStart cellLimit valueLimit
-starts m e = ap (λ x. snapshot x (replicate 2048 0) (replicate 2048 0) (replicate 4096 0) (replicate 4096 0)) e
+starts m e = ap (λ x. snapshot x (replicate 2048 0) (replicate 2048 0) (replicate 2048 0) (replicate 4096 0) (replicate 4096 0)) e
 
 -- of the buffers the lines show the output alone
-shows : (a : Meaning) (steps : ℕ) (m : Machine) (xs ns tape output : List ℕ)
-    → printed (record { answer = a; steps = steps; left = snapshot m [] [] [] output })
-    ≡ printed (record { answer = a; steps = steps; left = snapshot m xs ns tape output })
+shows : (a : Meaning) (steps : ℕ) (m : Machine) (xs ns ms tape output : List ℕ)
+    → printed (record { answer = a; steps = steps; left = snapshot m [] [] [] [] output })
+    ≡ printed (record { answer = a; steps = steps; left = snapshot m xs ns ms tape output })
 unfolding printed
-shows (outcome n vs) steps m xs ns tape output = refl
-shows (refusal n vs) steps m xs ns tape output = refl
+shows (outcome n vs) steps m xs ns ms tape output = refl
+shows (refusal n vs) steps m xs ns ms tape output = refl
 
-shown : (r : Ran) (xs ns tape output : List ℕ)
-    → printed (reported (r .answer) (r .steps) (r .machine) output) ≡ printed (called r xs ns tape output)
+shown : (r : Ran) (xs ns ms tape output : List ℕ)
+    → printed (reported (r .answer) (r .steps) (r .machine) output) ≡ printed (called r xs ns ms tape output)
 unfolding reported
-shown r xs ns tape output = shows (meaning (r .answer)) (r .steps) (r .machine) xs ns tape output
+shown r xs ns ms tape output = shows (meaning (r .answer)) (r .steps) (r .machine) xs ns ms tape output
 
-pub solved : (input : List ℕ) (m : Machine) (r : Ran) (xs ns tape output lines after : List ℕ) (put : Put) → m ≡ solveStart .machine
-    → called r xs ns tape output ≡ plainBudgetText input (snapshot m (replicate 2048 0) (replicate 2048 0) (replicate 4096 0) (replicate 4096 0))
+pub solved : (input : List ℕ) (m : Machine) (r : Ran) (xs ns ms tape output lines after : List ℕ) (put : Put) → m ≡ solveStart .machine
+    → called r xs ns ms tape output ≡ plainBudgetText input (snapshot m (replicate 2048 0) (replicate 2048 0) (replicate 2048 0) (replicate 4096 0) (replicate 4096 0))
     → Writes (printed (reported (r .answer) (r .steps) (r .machine) output)) lines 0 put after
     → Writes (solve input) lines 0 put after
 unfolding solve
-solved input m r xs ns tape output lines after put s c w =
-    subst (λ l. Writes l lines 0 put after) (shown r xs ns tape output ∙ ap printed (c ∙ ap (plainBudgetText input) (starts m s))) w
+solved input m r xs ns ms tape output lines after put s c w =
+    subst (λ l. Writes l lines 0 put after) (shown r xs ns ms tape output ∙ ap printed (c ∙ ap (plainBudgetText input) (starts m s))) w
 
 -- a buffer of 69,703 bytes has room for the lines
 pub lines-fit : (input lines after : List ℕ) (put : Put) → Writes (solve input) lines 0 put after → put ≡ NoSpace → 69703 ≤ length lines → ⊥

@@ -39,14 +39,15 @@ pub fn run_words(
     extras: Marks,
     addresses: &mut [u64],
     numbers: &mut [u64],
+    moments: &mut [u64],
     marks: &mut [u64],
     tape: &mut [u64],
     output: &mut [u64],
 ) -> Ran
-    ensures { λ r. ⌜ guardedCalled r (now (addresses .exit)) (now (numbers .exit)) (now (marks .exit))
+    ensures { λ r. ⌜ guardedCalled r (now (addresses .exit)) (now (numbers .exit)) (now (moments .exit)) (now (marks .exit))
         (now (tape .exit)) (now (output .exit))
         ≡ guardedWords (now (words .entry)) budget
-        (guardedSnapshot machine extras (now (addresses .entry)) (now (numbers .entry)) (now (marks .entry))
+        (guardedSnapshot machine extras (now (addresses .entry)) (now (numbers .entry)) (now (moments .entry)) (now (marks .entry))
         (now (tape .entry)) (now (output .entry))) ⌝ }
 {
     calling::runs::run_words(
@@ -56,6 +57,7 @@ pub fn run_words(
         machine,
         addresses,
         numbers,
+        moments,
         marks,
         tape,
         output,
@@ -69,14 +71,15 @@ pub fn step_words(
     extras: Marks,
     addresses: &mut [u64],
     numbers: &mut [u64],
+    moments: &mut [u64],
     marks: &mut [u64],
     tape: &mut [u64],
     output: &mut [u64],
 ) -> Ran
-    ensures { λ r. ⌜ guardedCalled r (now (addresses .exit)) (now (numbers .exit)) (now (marks .exit))
+    ensures { λ r. ⌜ guardedCalled r (now (addresses .exit)) (now (numbers .exit)) (now (moments .exit)) (now (marks .exit))
         (now (tape .exit)) (now (output .exit))
         ≡ guardedWords (now (words .entry)) 1
-        (guardedSnapshot machine extras (now (addresses .entry)) (now (numbers .entry)) (now (marks .entry))
+        (guardedSnapshot machine extras (now (addresses .entry)) (now (numbers .entry)) (now (moments .entry)) (now (marks .entry))
         (now (tape .entry)) (now (output .entry))) ⌝ }
 {
     run_words(
@@ -86,6 +89,7 @@ pub fn step_words(
         extras,
         addresses,
         numbers,
+        moments,
         marks,
         tape,
         output,
@@ -100,14 +104,15 @@ pub fn run_text(
     extras: Marks,
     addresses: &mut [u64],
     numbers: &mut [u64],
+    moments: &mut [u64],
     marks: &mut [u64],
     tape: &mut [u64],
     output: &mut [u64],
 ) -> Ran
-    ensures { λ r. ⌜ guardedCalled r (now (addresses .exit)) (now (numbers .exit)) (now (marks .exit))
+    ensures { λ r. ⌜ guardedCalled r (now (addresses .exit)) (now (numbers .exit)) (now (moments .exit)) (now (marks .exit))
         (now (tape .exit)) (now (output .exit))
         ≡ guardedText (now (text .entry)) budget
-        (guardedSnapshot machine extras (now (addresses .entry)) (now (numbers .entry)) (now (marks .entry))
+        (guardedSnapshot machine extras (now (addresses .entry)) (now (numbers .entry)) (now (moments .entry)) (now (marks .entry))
         (now (tape .entry)) (now (output .entry))) ⌝ }
 {
     calling::runs::run_text(
@@ -117,6 +122,7 @@ pub fn run_text(
         machine,
         addresses,
         numbers,
+        moments,
         marks,
         tape,
         output,
@@ -130,14 +136,15 @@ pub fn run_budget_text(
     extras: Marks,
     addresses: &mut [u64],
     numbers: &mut [u64],
+    moments: &mut [u64],
     marks: &mut [u64],
     tape: &mut [u64],
     output: &mut [u64],
 ) -> Ran
-    ensures { λ r. ⌜ guardedCalled r (now (addresses .exit)) (now (numbers .exit)) (now (marks .exit))
+    ensures { λ r. ⌜ guardedCalled r (now (addresses .exit)) (now (numbers .exit)) (now (moments .exit)) (now (marks .exit))
         (now (tape .exit)) (now (output .exit))
         ≡ guardedBudgetText (now (text .entry))
-        (guardedSnapshot machine extras (now (addresses .entry)) (now (numbers .entry)) (now (marks .entry))
+        (guardedSnapshot machine extras (now (addresses .entry)) (now (numbers .entry)) (now (moments .entry)) (now (marks .entry))
         (now (tape .entry)) (now (output .entry))) ⌝ }
 {
     calling::runs::run_budget_text(
@@ -146,6 +153,7 @@ pub fn run_budget_text(
         machine,
         addresses,
         numbers,
+        moments,
         marks,
         tape,
         output,
@@ -159,13 +167,14 @@ pub fn check_words(
     extras: Marks,
     addresses: &[u64],
     numbers: &[u64],
+    moments: &[u64],
     marks: &[u64],
     tape: &[u64],
     output: &[u64],
 ) -> Answer
     ensures { λ r. ⌜ meaning r
         ≡ guardedWords (now (words .entry)) 0
-        (guardedSnapshot machine extras (now (addresses .entry)) (now (numbers .entry)) (now (marks .entry))
+        (guardedSnapshot machine extras (now (addresses .entry)) (now (numbers .entry)) (now (moments .entry)) (now (marks .entry))
         (now (tape .entry)) (now (output .entry)))
         .answer ⌝ }
 {
@@ -175,6 +184,7 @@ pub fn check_words(
         machine,
         addresses,
         numbers,
+        moments,
         marks,
         tape,
         output,
@@ -188,13 +198,14 @@ pub fn check_text(
     extras: Marks,
     addresses: &[u64],
     numbers: &[u64],
+    moments: &[u64],
     marks: &[u64],
     tape: &[u64],
     output: &[u64],
 ) -> Answer
     ensures { λ r. ⌜ meaning r
         ≡ guardedText (now (text .entry)) 0
-        (guardedSnapshot machine extras (now (addresses .entry)) (now (numbers .entry)) (now (marks .entry))
+        (guardedSnapshot machine extras (now (addresses .entry)) (now (numbers .entry)) (now (moments .entry)) (now (marks .entry))
         (now (tape .entry)) (now (output .entry)))
         .answer ⌝ }
 {
@@ -204,6 +215,7 @@ pub fn check_text(
         machine,
         addresses,
         numbers,
+        moments,
         marks,
         tape,
         output,
@@ -217,13 +229,14 @@ pub fn check_budget_text(
     extras: Marks,
     addresses: &[u64],
     numbers: &[u64],
+    moments: &[u64],
     marks: &[u64],
     tape: &[u64],
     output: &[u64],
 ) -> Answer
     ensures { λ r. ⌜ meaning r
         ≡ guardedCall (jobProgram (loadBudgetText (now (text .entry)))) 0
-        (guardedSnapshot machine extras (now (addresses .entry)) (now (numbers .entry)) (now (marks .entry))
+        (guardedSnapshot machine extras (now (addresses .entry)) (now (numbers .entry)) (now (moments .entry)) (now (marks .entry))
         (now (tape .entry)) (now (output .entry)))
         .answer ⌝ }
 {
@@ -233,6 +246,7 @@ pub fn check_budget_text(
         machine,
         addresses,
         numbers,
+        moments,
         marks,
         tape,
         output,

@@ -36,6 +36,7 @@ pub fn solve(input: &[u8], lines: &mut [u8]) -> Put
 {
     let mut addresses = [0u64; entry::CELL_LIMIT];
     let mut numbers = [0u64; entry::CELL_LIMIT];
+    let mut moments = [0u64; entry::CELL_LIMIT];
     let mut tape = [0u64; entry::VALUE_LIMIT];
     let mut output = [0u64; entry::VALUE_LIMIT];
     let ran = plain::run_budget_text(
@@ -43,6 +44,7 @@ pub fn solve(input: &[u8], lines: &mut [u8]) -> Put
         start(),
         &mut addresses,
         &mut numbers,
+        &mut moments,
         &mut tape,
         &mut output,
     );

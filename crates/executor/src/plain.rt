@@ -30,12 +30,14 @@ pub fn run_words(
     machine: Machine,
     addresses: &mut [u64],
     numbers: &mut [u64],
+    moments: &mut [u64],
     tape: &mut [u64],
     output: &mut [u64],
 ) -> Ran
-    ensures { λ r. ⌜ called r (now (addresses .exit)) (now (numbers .exit)) (now (tape .exit)) (now (output .exit))
+    ensures { λ r. ⌜ called r (now (addresses .exit)) (now (numbers .exit)) (now (moments .exit)) (now (tape .exit)) (now (output .exit))
         ≡ plainWords (now (words .entry)) budget
-        (snapshot machine (now (addresses .entry)) (now (numbers .entry)) (now (tape .entry)) (now (output .entry))) ⌝ }
+        (snapshot machine (now (addresses .entry)) (now (numbers .entry)) (now (moments .entry))
+        (now (tape .entry)) (now (output .entry))) ⌝ }
     ensures { λ r. ⌜ r .extras ≡ noMarks ⌝ }
 {
     let mut none = [0u64; 1];
@@ -46,6 +48,7 @@ pub fn run_words(
         machine,
         addresses,
         numbers,
+        moments,
         &mut none[..0],
         tape,
         output,
@@ -58,15 +61,17 @@ pub fn step_words(
     machine: Machine,
     addresses: &mut [u64],
     numbers: &mut [u64],
+    moments: &mut [u64],
     tape: &mut [u64],
     output: &mut [u64],
 ) -> Ran
-    ensures { λ r. ⌜ called r (now (addresses .exit)) (now (numbers .exit)) (now (tape .exit)) (now (output .exit))
+    ensures { λ r. ⌜ called r (now (addresses .exit)) (now (numbers .exit)) (now (moments .exit)) (now (tape .exit)) (now (output .exit))
         ≡ plainWords (now (words .entry)) 1
-        (snapshot machine (now (addresses .entry)) (now (numbers .entry)) (now (tape .entry)) (now (output .entry))) ⌝ }
+        (snapshot machine (now (addresses .entry)) (now (numbers .entry)) (now (moments .entry))
+        (now (tape .entry)) (now (output .entry))) ⌝ }
     ensures { λ r. ⌜ r .extras ≡ noMarks ⌝ }
 {
-    run_words(words, 1, machine, addresses, numbers, tape, output)
+    run_words(words, 1, machine, addresses, numbers, moments, tape, output)
 }
 
 // Runs a program as text.
@@ -76,12 +81,14 @@ pub fn run_text(
     machine: Machine,
     addresses: &mut [u64],
     numbers: &mut [u64],
+    moments: &mut [u64],
     tape: &mut [u64],
     output: &mut [u64],
 ) -> Ran
-    ensures { λ r. ⌜ called r (now (addresses .exit)) (now (numbers .exit)) (now (tape .exit)) (now (output .exit))
+    ensures { λ r. ⌜ called r (now (addresses .exit)) (now (numbers .exit)) (now (moments .exit)) (now (tape .exit)) (now (output .exit))
         ≡ plainText (now (text .entry)) budget
-        (snapshot machine (now (addresses .entry)) (now (numbers .entry)) (now (tape .entry)) (now (output .entry))) ⌝ }
+        (snapshot machine (now (addresses .entry)) (now (numbers .entry)) (now (moments .entry))
+        (now (tape .entry)) (now (output .entry))) ⌝ }
     ensures { λ r. ⌜ r .extras ≡ noMarks ⌝ }
 {
     let mut none = [0u64; 1];
@@ -92,6 +99,7 @@ pub fn run_text(
         machine,
         addresses,
         numbers,
+        moments,
         &mut none[..0],
         tape,
         output,
@@ -104,12 +112,14 @@ pub fn run_budget_text(
     machine: Machine,
     addresses: &mut [u64],
     numbers: &mut [u64],
+    moments: &mut [u64],
     tape: &mut [u64],
     output: &mut [u64],
 ) -> Ran
-    ensures { λ r. ⌜ called r (now (addresses .exit)) (now (numbers .exit)) (now (tape .exit)) (now (output .exit))
+    ensures { λ r. ⌜ called r (now (addresses .exit)) (now (numbers .exit)) (now (moments .exit)) (now (tape .exit)) (now (output .exit))
         ≡ plainBudgetText (now (text .entry))
-        (snapshot machine (now (addresses .entry)) (now (numbers .entry)) (now (tape .entry)) (now (output .entry))) ⌝ }
+        (snapshot machine (now (addresses .entry)) (now (numbers .entry)) (now (moments .entry))
+        (now (tape .entry)) (now (output .entry))) ⌝ }
     ensures { λ r. ⌜ r .extras ≡ noMarks ⌝ }
 {
     let mut none = [0u64; 1];
@@ -119,6 +129,7 @@ pub fn run_budget_text(
         machine,
         addresses,
         numbers,
+        moments,
         &mut none[..0],
         tape,
         output,
@@ -131,12 +142,13 @@ pub fn check_words(
     machine: Machine,
     addresses: &[u64],
     numbers: &[u64],
+    moments: &[u64],
     tape: &[u64],
     output: &[u64],
 ) -> Answer
     ensures { λ r. ⌜ meaning r
         ≡ plainWords (now (words .entry)) 0
-        (snapshot machine (now (addresses .entry)) (now (numbers .entry)) (now (tape .entry)) (now (output .entry)))
+        (snapshot machine (now (addresses .entry)) (now (numbers .entry)) (now (moments .entry)) (now (tape .entry)) (now (output .entry)))
         .answer ⌝ }
 {
     let none = [0u64; 1];
@@ -146,6 +158,7 @@ pub fn check_words(
         machine,
         addresses,
         numbers,
+        moments,
         &none[..0],
         tape,
         output,
@@ -158,12 +171,13 @@ pub fn check_text(
     machine: Machine,
     addresses: &[u64],
     numbers: &[u64],
+    moments: &[u64],
     tape: &[u64],
     output: &[u64],
 ) -> Answer
     ensures { λ r. ⌜ meaning r
         ≡ plainText (now (text .entry)) 0
-        (snapshot machine (now (addresses .entry)) (now (numbers .entry)) (now (tape .entry)) (now (output .entry)))
+        (snapshot machine (now (addresses .entry)) (now (numbers .entry)) (now (moments .entry)) (now (tape .entry)) (now (output .entry)))
         .answer ⌝ }
 {
     let none = [0u64; 1];
@@ -173,6 +187,7 @@ pub fn check_text(
         machine,
         addresses,
         numbers,
+        moments,
         &none[..0],
         tape,
         output,
@@ -185,12 +200,13 @@ pub fn check_budget_text(
     machine: Machine,
     addresses: &[u64],
     numbers: &[u64],
+    moments: &[u64],
     tape: &[u64],
     output: &[u64],
 ) -> Answer
     ensures { λ r. ⌜ meaning r
         ≡ plainCall (jobProgram (loadBudgetText (now (text .entry)))) 0
-        (snapshot machine (now (addresses .entry)) (now (numbers .entry)) (now (tape .entry)) (now (output .entry)))
+        (snapshot machine (now (addresses .entry)) (now (numbers .entry)) (now (moments .entry)) (now (tape .entry)) (now (output .entry)))
         .answer ⌝ }
 {
     let none = [0u64; 1];
@@ -200,6 +216,7 @@ pub fn check_budget_text(
         machine,
         addresses,
         numbers,
+        moments,
         &none[..0],
         tape,
         output,

@@ -11,18 +11,18 @@ use denote.Slice.{ShrSlice, MutSlice, slice-vals, shr-slice-tells, mut-slice-tel
 abbrev pub Slice : Type 0
 Slice = RefT (List ℕ)
 
--- addresses, numbers, tape, output
+-- addresses, numbers, moments, tape, output
 abbrev pub Slices : Type 0
-Slices = Slice × (Slice × (Slice × (Slice × Unit {0})))
+Slices = Slice × (Slice × (Slice × (Slice × (Slice × Unit {0}))))
 
-abbrev pub slices-at : Slices → List Val × (List Val × (List Val × (List Val × Unit {0})))
-slices-at (a, (b, (c, (d, _)))) = (slice-vals a, (slice-vals b, (slice-vals c, (slice-vals d, tt))))
+abbrev pub slices-at : Slices → List Val × (List Val × (List Val × (List Val × (List Val × Unit {0}))))
+slices-at (a, (b, (c, (d, (e, _))))) = (slice-vals a, (slice-vals b, (slice-vals c, (slice-vals d, (slice-vals e, tt)))))
 
--- addresses, numbers, marks, tape, output
+-- addresses, numbers, moments, marks, tape, output
 abbrev pub GuardedSlices : Type 0
 GuardedSlices = Slice × Slices
 
-abbrev pub guarded-slices-at : GuardedSlices → List Val × (List Val × (List Val × (List Val × (List Val × Unit {0}))))
+abbrev pub guarded-slices-at : GuardedSlices → List Val × (List Val × (List Val × (List Val × (List Val × (List Val × Unit {0})))))
 guarded-slices-at (a, ss) = (slice-vals a, slices-at ss)
 
 -- the same for every lifetime

@@ -10,12 +10,12 @@ use Rattle.machine.specs.declared.Answered.{Answered}
 use Rattle.machine.specs.declared.GuardedMachine.{GuardedMachine}
 
 -- the answer by its number and values, the steps, and all that was handed in as it is afterwards
-abbrev pub stepped : Machine → Answered → List ℕ → List ℕ → List ℕ → List ℕ → Called Snapshot
-stepped m r xs ns tape output = record { answer = meaning (r .answer); steps = r .steps; left = snapshot m xs ns tape output }
+abbrev pub stepped : Machine → Answered → List ℕ → List ℕ → List ℕ → List ℕ → List ℕ → Called Snapshot
+stepped m r xs ns ms tape output = record { answer = meaning (r .answer); steps = r .steps; left = snapshot m xs ns ms tape output }
 
-abbrev pub recordSnapshot : GuardedMachine → List ℕ → List ℕ → List ℕ → List ℕ → List ℕ → GuardedSnapshot
+abbrev pub recordSnapshot : GuardedMachine → List ℕ → List ℕ → List ℕ → List ℕ → List ℕ → List ℕ → GuardedSnapshot
 recordSnapshot m = guardedSnapshot (m .machine) (m .extras)
 
-abbrev pub guardedStepped : GuardedMachine → Answered → List ℕ → List ℕ → List ℕ → List ℕ → List ℕ → Called GuardedSnapshot
-guardedStepped m r xs ns ts tape output =
-    record { answer = meaning (r .answer); steps = r .steps; left = recordSnapshot m xs ns ts tape output }
+abbrev pub guardedStepped : GuardedMachine → Answered → List ℕ → List ℕ → List ℕ → List ℕ → List ℕ → List ℕ → Called GuardedSnapshot
+guardedStepped m r xs ns ms ts tape output =
+    record { answer = meaning (r .answer); steps = r .steps; left = recordSnapshot m xs ns ms ts tape output }

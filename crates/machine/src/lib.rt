@@ -32,14 +32,24 @@ pub fn step(
     machine: &mut Machine,
     addresses: &mut [u64],
     numbers: &mut [u64],
+    moments: &mut [u64],
     tape: &mut [u64],
     output: &mut [u64],
 ) -> Answered
-    ensures { λ r. ⌜ stepped (now (machine .exit)) r (now (addresses .exit)) (now (numbers .exit)) (now (tape .exit)) (now (output .exit))
+    ensures { λ r. ⌜ stepped (now (machine .exit)) r
+        (now (addresses .exit)) (now (numbers .exit)) (now (moments .exit)) (now (tape .exit)) (now (output .exit))
         ≡ plainWords (now (words .entry)) 1 (snapshot (now (machine .entry))
-        (now (addresses .entry)) (now (numbers .entry)) (now (tape .entry)) (now (output .entry))) ⌝ }
+        (now (addresses .entry)) (now (numbers .entry)) (now (moments .entry)) (now (tape .entry)) (now (output .entry))) ⌝ }
 {
-    let ran = executor::plain::step_words(words, *machine, addresses, numbers, tape, output);
+    let ran = executor::plain::step_words(
+        words,
+        *machine,
+        addresses,
+        numbers,
+        moments,
+        tape,
+        output,
+    );
     *machine = ran.machine;
     let answer = ran.answer;
     Answered {
@@ -54,16 +64,25 @@ pub fn lend_and_step(
     machine: Machine,
     addresses: &mut [u64],
     numbers: &mut [u64],
+    moments: &mut [u64],
     tape: &mut [u64],
     output: &mut [u64],
 ) -> Ran
-    ensures { λ r. ⌜ called r (now (addresses .exit)) (now (numbers .exit)) (now (tape .exit)) (now (output .exit))
+    ensures { λ r. ⌜ called r (now (addresses .exit)) (now (numbers .exit)) (now (moments .exit)) (now (tape .exit)) (now (output .exit))
         ≡ plainWords (now (words .entry)) 1 (snapshot machine
-        (now (addresses .entry)) (now (numbers .entry)) (now (tape .entry)) (now (output .entry))) ⌝ }
+        (now (addresses .entry)) (now (numbers .entry)) (now (moments .entry)) (now (tape .entry)) (now (output .entry))) ⌝ }
     ensures { λ r. ⌜ r .extras ≡ noMarks ⌝ }
 {
     let mut record = machine;
-    let answered = step(words, &mut record, addresses, numbers, tape, output);
+    let answered = step(
+        words,
+        &mut record,
+        addresses,
+        numbers,
+        moments,
+        tape,
+        output,
+    );
     let answer = answered.answer;
     Ran {
         answer,
@@ -79,14 +98,16 @@ pub fn guarded_step(
     machine: &mut GuardedMachine,
     addresses: &mut [u64],
     numbers: &mut [u64],
+    moments: &mut [u64],
     marks: &mut [u64],
     tape: &mut [u64],
     output: &mut [u64],
 ) -> Answered
-    ensures { λ r. ⌜ guardedStepped (now (machine .exit)) r (now (addresses .exit)) (now (numbers .exit)) (now (marks .exit))
-        (now (tape .exit)) (now (output .exit))
+    ensures { λ r. ⌜ guardedStepped (now (machine .exit)) r (now (addresses .exit)) (now (numbers .exit)) (now (moments .exit))
+        (now (marks .exit)) (now (tape .exit)) (now (output .exit))
         ≡ guardedWords (now (words .entry)) 1 (recordSnapshot (now (machine .entry))
-        (now (addresses .entry)) (now (numbers .entry)) (now (marks .entry)) (now (tape .entry)) (now (output .entry))) ⌝ }
+        (now (addresses .entry)) (now (numbers .entry)) (now (moments .entry)) (now (marks .entry))
+        (now (tape .entry)) (now (output .entry))) ⌝ }
 {
     let kept = *machine;
     let plain = kept.machine;
@@ -96,6 +117,7 @@ pub fn guarded_step(
         kept.extras,
         addresses,
         numbers,
+        moments,
         marks,
         tape,
         output,
@@ -118,17 +140,28 @@ pub fn lend_and_step_guarded(
     machine: GuardedMachine,
     addresses: &mut [u64],
     numbers: &mut [u64],
+    moments: &mut [u64],
     marks: &mut [u64],
     tape: &mut [u64],
     output: &mut [u64],
 ) -> Ran
     ensures { λ r. ⌜ guardedCalled r
-        (now (addresses .exit)) (now (numbers .exit)) (now (marks .exit)) (now (tape .exit)) (now (output .exit))
+        (now (addresses .exit)) (now (numbers .exit)) (now (moments .exit)) (now (marks .exit)) (now (tape .exit)) (now (output .exit))
         ≡ guardedWords (now (words .entry)) 1 (recordSnapshot machine
-        (now (addresses .entry)) (now (numbers .entry)) (now (marks .entry)) (now (tape .entry)) (now (output .entry))) ⌝ }
+        (now (addresses .entry)) (now (numbers .entry)) (now (moments .entry)) (now (marks .entry))
+        (now (tape .entry)) (now (output .entry))) ⌝ }
 {
     let mut record = machine;
-    let answered = guarded_step(words, &mut record, addresses, numbers, marks, tape, output);
+    let answered = guarded_step(
+        words,
+        &mut record,
+        addresses,
+        numbers,
+        moments,
+        marks,
+        tape,
+        output,
+    );
     let answer = answered.answer;
     let left = record.machine;
     Ran {

@@ -43,7 +43,7 @@ module _ (c : Called GuardedSnapshot)
   left-read : guardedHanded (guardedLeft c) ≡ c .left
   left-read =
       ap₂ (λ (m : Machine) (e : Marks).
-      guardedSnapshot m e (c .left .plain .addresses) (c .left .plain .numbers) (c .left .marks) (c .left .plain .tape) (c .left .plain .output))
+      guardedSnapshot m e (c .left .plain .addresses) (c .left .plain .numbers) (c .left .plain .moments) (c .left .marks) (c .left .plain .tape) (c .left .plain .output))
       (records-read .machine (c .left .plain .machine) ten four)
       (records-read .extras (c .left .extras))
 
@@ -120,7 +120,7 @@ module _ (program : Result (List Instruction)) (budget : ℕ) (h : NonInterferen
   run-unfit b s e =
       ap guardedLeft e
       ∙ ap₂ (λ (m x : List ℕ).
-      guardedBuffers (refusalWords 3 0) m x (b .plain .addresses) (b .plain .numbers) (b .marks) (b .plain .tape) (b .plain .output))
+      guardedBuffers (refusalWords 3 0) m x (b .plain .addresses) (b .plain .numbers) (b .plain .moments) (b .marks) (b .plain .tape) (b .plain .output))
       (records-kept .machine (b .plain .machine) (s .machine))
       (records-kept .extras (b .extras) (s .extras))
 

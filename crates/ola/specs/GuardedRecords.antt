@@ -19,18 +19,18 @@ use Rattle.ola.specs.Lent.{Buffers, GuardedBuffers, buffers, plainLeft, 
 -- What a function reads of what it is lent: the machine and the extras that the records hold, and the buffers; not the answer
 
 abbrev pub plainHanded : Buffers → Snapshot
-plainHanded b = snapshot (machineOf (b .machine)) (b .addresses) (b .numbers) (b .tape) (b .output)
+plainHanded b = snapshot (machineOf (b .machine)) (b .addresses) (b .numbers) (b .moments) (b .tape) (b .output)
 
 abbrev pub guardedHanded : GuardedBuffers → GuardedSnapshot
 guardedHanded b =
     guardedSnapshot (machineOf (b .plain .machine)) (marksOf (b .extras))
-    (b .plain .addresses) (b .plain .numbers) (b .marks) (b .plain .tape) (b .plain .output)
+    (b .plain .addresses) (b .plain .numbers) (b .plain .moments) (b .marks) (b .plain .tape) (b .plain .output)
 
 -- What a function leaves in what it is lent
 
 -- the same with another answer
 abbrev pub withAnswer : List ℕ → Buffers → Buffers
-withAnswer answer b = buffers answer (b .machine) (b .addresses) (b .numbers) (b .tape) (b .output)
+withAnswer answer b = buffers answer (b .machine) (b .addresses) (b .numbers) (b .moments) (b .tape) (b .output)
 
 abbrev pub withGuardedAnswer : List ℕ → GuardedBuffers → GuardedBuffers
 withGuardedAnswer answer b = record { plain = withAnswer answer (b .plain); extras = b .extras; marks = b .marks }

@@ -12,6 +12,7 @@ pub record Buffers : Type 0 where
   pub machine : List ℕ
   pub addresses : List ℕ
   pub numbers : List ℕ
+  pub moments : List ℕ
   pub tape : List ℕ
   pub output : List ℕ
 
@@ -26,19 +27,19 @@ pub record TracedBuffers : Type 0 where
   pub plain : Buffers
   pub sheet : List ℕ
 
-abbrev pub buffers : List ℕ → List ℕ → List ℕ → List ℕ → List ℕ → List ℕ → Buffers
-buffers answer machine xs ns tape output =
-    record { answer = answer; machine = machine; addresses = xs; numbers = ns; tape = tape; output = output }
+abbrev pub buffers : List ℕ → List ℕ → List ℕ → List ℕ → List ℕ → List ℕ → List ℕ → Buffers
+buffers answer machine xs ns ms tape output =
+    record { answer = answer; machine = machine; addresses = xs; numbers = ns; moments = ms; tape = tape; output = output }
 
-abbrev pub guardedBuffers : List ℕ → List ℕ → List ℕ → List ℕ → List ℕ → List ℕ → List ℕ → List ℕ → GuardedBuffers
-guardedBuffers answer machine extras xs ns ts tape output =
-    record { plain = buffers answer machine xs ns tape output; extras = extras; marks = ts }
+abbrev pub guardedBuffers : List ℕ → List ℕ → List ℕ → List ℕ → List ℕ → List ℕ → List ℕ → List ℕ → List ℕ → GuardedBuffers
+guardedBuffers answer machine extras xs ns ms ts tape output =
+    record { plain = buffers answer machine xs ns ms tape output; extras = extras; marks = ts }
 
-abbrev pub tracedBuffers : List ℕ → List ℕ → List ℕ → List ℕ → List ℕ → List ℕ → List ℕ → TracedBuffers
-tracedBuffers answer machine xs ns tape output sheet = record { plain = buffers answer machine xs ns tape output; sheet = sheet }
+abbrev pub tracedBuffers : List ℕ → List ℕ → List ℕ → List ℕ → List ℕ → List ℕ → List ℕ → List ℕ → TracedBuffers
+tracedBuffers answer machine xs ns ms tape output sheet = record { plain = buffers answer machine xs ns ms tape output; sheet = sheet }
 
 abbrev leftIn : List ℕ → Snapshot → Buffers
-leftIn answer s = buffers answer (machineRecord (s .machine)) (s .addresses) (s .numbers) (s .tape) (s .output)
+leftIn answer s = buffers answer (machineRecord (s .machine)) (s .addresses) (s .numbers) (s .moments) (s .tape) (s .output)
 
 -- what a call leaves
 abbrev pub plainLeft : Called Snapshot → Buffers

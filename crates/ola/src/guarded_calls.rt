@@ -24,16 +24,18 @@ pub extern "C" fn ola_guarded_run_words(
     extras: &mut [u64; 1],
     addresses: &mut [u64],
     numbers: &mut [u64],
+    moments: &mut [u64],
     marks: &mut [u64],
     tape: &mut [u64],
     output: &mut [u64],
     answer: &mut [u64; 8],
 )
     ensures { λ _. ⌜ guardedBuffers (now (answer .exit)) (now (machine .exit)) (now (extras .exit))
-        (now (addresses .exit)) (now (numbers .exit)) (now (marks .exit)) (now (tape .exit)) (now (output .exit))
+        (now (addresses .exit)) (now (numbers .exit)) (now (moments .exit)) (now (marks .exit)) (now (tape .exit)) (now (output .exit))
         ≡ guardedLeft (guardedWords (now (words .entry)) budget
         (guardedSnapshot (machineOf (now (machine .entry))) (marksOf (now (extras .entry)))
-        (now (addresses .entry)) (now (numbers .entry)) (now (marks .entry)) (now (tape .entry)) (now (output .entry)))) ⌝ }
+        (now (addresses .entry)) (now (numbers .entry)) (now (moments .entry)) (now (marks .entry))
+        (now (tape .entry)) (now (output .entry)))) ⌝ }
 {
     let ran = executor::guarded::run_words(
         words,
@@ -42,6 +44,7 @@ pub extern "C" fn ola_guarded_run_words(
         marks_of(*extras),
         addresses,
         numbers,
+        moments,
         marks,
         tape,
         output,
@@ -62,16 +65,18 @@ pub extern "C" fn ola_guarded_step_words(
     extras: &mut [u64; 1],
     addresses: &mut [u64],
     numbers: &mut [u64],
+    moments: &mut [u64],
     marks: &mut [u64],
     tape: &mut [u64],
     output: &mut [u64],
     answer: &mut [u64; 8],
 )
     ensures { λ _. ⌜ guardedBuffers (now (answer .exit)) (now (machine .exit)) (now (extras .exit))
-        (now (addresses .exit)) (now (numbers .exit)) (now (marks .exit)) (now (tape .exit)) (now (output .exit))
+        (now (addresses .exit)) (now (numbers .exit)) (now (moments .exit)) (now (marks .exit)) (now (tape .exit)) (now (output .exit))
         ≡ guardedLeft (guardedWords (now (words .entry)) 1
         (guardedSnapshot (machineOf (now (machine .entry))) (marksOf (now (extras .entry)))
-        (now (addresses .entry)) (now (numbers .entry)) (now (marks .entry)) (now (tape .entry)) (now (output .entry)))) ⌝ }
+        (now (addresses .entry)) (now (numbers .entry)) (now (moments .entry)) (now (marks .entry))
+        (now (tape .entry)) (now (output .entry)))) ⌝ }
 {
     let ran = machine::lend_and_step_guarded(
         words,
@@ -81,6 +86,7 @@ pub extern "C" fn ola_guarded_step_words(
         },
         addresses,
         numbers,
+        moments,
         marks,
         tape,
         output,
@@ -102,16 +108,18 @@ pub extern "C" fn ola_guarded_run_text(
     extras: &mut [u64; 1],
     addresses: &mut [u64],
     numbers: &mut [u64],
+    moments: &mut [u64],
     marks: &mut [u64],
     tape: &mut [u64],
     output: &mut [u64],
     answer: &mut [u64; 8],
 )
     ensures { λ _. ⌜ guardedBuffers (now (answer .exit)) (now (machine .exit)) (now (extras .exit))
-        (now (addresses .exit)) (now (numbers .exit)) (now (marks .exit)) (now (tape .exit)) (now (output .exit))
+        (now (addresses .exit)) (now (numbers .exit)) (now (moments .exit)) (now (marks .exit)) (now (tape .exit)) (now (output .exit))
         ≡ guardedLeft (guardedText (now (text .entry)) budget
         (guardedSnapshot (machineOf (now (machine .entry))) (marksOf (now (extras .entry)))
-        (now (addresses .entry)) (now (numbers .entry)) (now (marks .entry)) (now (tape .entry)) (now (output .entry)))) ⌝ }
+        (now (addresses .entry)) (now (numbers .entry)) (now (moments .entry)) (now (marks .entry))
+        (now (tape .entry)) (now (output .entry)))) ⌝ }
 {
     let ran = executor::guarded::run_text(
         text,
@@ -120,6 +128,7 @@ pub extern "C" fn ola_guarded_run_text(
         marks_of(*extras),
         addresses,
         numbers,
+        moments,
         marks,
         tape,
         output,
@@ -140,16 +149,18 @@ pub extern "C" fn ola_guarded_run_budget_text(
     extras: &mut [u64; 1],
     addresses: &mut [u64],
     numbers: &mut [u64],
+    moments: &mut [u64],
     marks: &mut [u64],
     tape: &mut [u64],
     output: &mut [u64],
     answer: &mut [u64; 8],
 )
     ensures { λ _. ⌜ guardedBuffers (now (answer .exit)) (now (machine .exit)) (now (extras .exit))
-        (now (addresses .exit)) (now (numbers .exit)) (now (marks .exit)) (now (tape .exit)) (now (output .exit))
+        (now (addresses .exit)) (now (numbers .exit)) (now (moments .exit)) (now (marks .exit)) (now (tape .exit)) (now (output .exit))
         ≡ guardedLeft (guardedBudgetText (now (text .entry))
         (guardedSnapshot (machineOf (now (machine .entry))) (marksOf (now (extras .entry)))
-        (now (addresses .entry)) (now (numbers .entry)) (now (marks .entry)) (now (tape .entry)) (now (output .entry)))) ⌝ }
+        (now (addresses .entry)) (now (numbers .entry)) (now (moments .entry)) (now (marks .entry))
+        (now (tape .entry)) (now (output .entry)))) ⌝ }
 {
     let ran = executor::guarded::run_budget_text(
         text,
@@ -157,6 +168,7 @@ pub extern "C" fn ola_guarded_run_budget_text(
         marks_of(*extras),
         addresses,
         numbers,
+        moments,
         marks,
         tape,
         output,
@@ -177,6 +189,7 @@ pub extern "C" fn ola_guarded_check_words(
     extras: &[u64; 1],
     addresses: &[u64],
     numbers: &[u64],
+    moments: &[u64],
     marks: &[u64],
     tape: &[u64],
     output: &[u64],
@@ -185,7 +198,8 @@ pub extern "C" fn ola_guarded_check_words(
     ensures { λ _. ⌜ now (answer .exit)
         ≡ answerRecord (guardedWords (now (words .entry)) 0
         (guardedSnapshot (machineOf (now (machine .entry))) (marksOf (now (extras .entry)))
-        (now (addresses .entry)) (now (numbers .entry)) (now (marks .entry)) (now (tape .entry)) (now (output .entry)))
+        (now (addresses .entry)) (now (numbers .entry)) (now (moments .entry)) (now (marks .entry))
+        (now (tape .entry)) (now (output .entry)))
         .answer) 0 ⌝ }
 {
     let given = executor::guarded::check_words(
@@ -194,6 +208,7 @@ pub extern "C" fn ola_guarded_check_words(
         marks_of(*extras),
         addresses,
         numbers,
+        moments,
         marks,
         tape,
         output,
@@ -209,6 +224,7 @@ pub extern "C" fn ola_guarded_check_text(
     extras: &[u64; 1],
     addresses: &[u64],
     numbers: &[u64],
+    moments: &[u64],
     marks: &[u64],
     tape: &[u64],
     output: &[u64],
@@ -217,7 +233,8 @@ pub extern "C" fn ola_guarded_check_text(
     ensures { λ _. ⌜ now (answer .exit)
         ≡ answerRecord (guardedText (now (text .entry)) 0
         (guardedSnapshot (machineOf (now (machine .entry))) (marksOf (now (extras .entry)))
-        (now (addresses .entry)) (now (numbers .entry)) (now (marks .entry)) (now (tape .entry)) (now (output .entry)))
+        (now (addresses .entry)) (now (numbers .entry)) (now (moments .entry)) (now (marks .entry))
+        (now (tape .entry)) (now (output .entry)))
         .answer) 0 ⌝ }
 {
     let given = executor::guarded::check_text(
@@ -226,6 +243,7 @@ pub extern "C" fn ola_guarded_check_text(
         marks_of(*extras),
         addresses,
         numbers,
+        moments,
         marks,
         tape,
         output,
@@ -241,6 +259,7 @@ pub extern "C" fn ola_guarded_check_budget_text(
     extras: &[u64; 1],
     addresses: &[u64],
     numbers: &[u64],
+    moments: &[u64],
     marks: &[u64],
     tape: &[u64],
     output: &[u64],
@@ -249,7 +268,8 @@ pub extern "C" fn ola_guarded_check_budget_text(
     ensures { λ _. ⌜ now (answer .exit)
         ≡ answerRecord (guardedCall (jobProgram (loadBudgetText (now (text .entry)))) 0
         (guardedSnapshot (machineOf (now (machine .entry))) (marksOf (now (extras .entry)))
-        (now (addresses .entry)) (now (numbers .entry)) (now (marks .entry)) (now (tape .entry)) (now (output .entry)))
+        (now (addresses .entry)) (now (numbers .entry)) (now (moments .entry)) (now (marks .entry))
+        (now (tape .entry)) (now (output .entry)))
         .answer) 0 ⌝ }
 {
     let given = executor::guarded::check_budget_text(
@@ -258,6 +278,7 @@ pub extern "C" fn ola_guarded_check_budget_text(
         marks_of(*extras),
         addresses,
         numbers,
+        moments,
         marks,
         tape,
         output,

@@ -17,15 +17,16 @@ pub extern "C" fn ola_run_words(
     machine: &mut [u64; 20],
     addresses: &mut [u64],
     numbers: &mut [u64],
+    moments: &mut [u64],
     tape: &mut [u64],
     output: &mut [u64],
     answer: &mut [u64; 8],
 )
     ensures { λ _. ⌜ buffers (now (answer .exit)) (now (machine .exit))
-        (now (addresses .exit)) (now (numbers .exit)) (now (tape .exit)) (now (output .exit))
+        (now (addresses .exit)) (now (numbers .exit)) (now (moments .exit)) (now (tape .exit)) (now (output .exit))
         ≡ plainLeft (plainWords (now (words .entry)) budget
         (snapshot (machineOf (now (machine .entry)))
-        (now (addresses .entry)) (now (numbers .entry)) (now (tape .entry)) (now (output .entry)))) ⌝ }
+        (now (addresses .entry)) (now (numbers .entry)) (now (moments .entry)) (now (tape .entry)) (now (output .entry)))) ⌝ }
 {
     let ran = executor::plain::run_words(
         words,
@@ -33,6 +34,7 @@ pub extern "C" fn ola_run_words(
         machine_of(*machine),
         addresses,
         numbers,
+        moments,
         tape,
         output,
     );
@@ -49,21 +51,23 @@ pub extern "C" fn ola_step_words(
     machine: &mut [u64; 20],
     addresses: &mut [u64],
     numbers: &mut [u64],
+    moments: &mut [u64],
     tape: &mut [u64],
     output: &mut [u64],
     answer: &mut [u64; 8],
 )
     ensures { λ _. ⌜ buffers (now (answer .exit)) (now (machine .exit))
-        (now (addresses .exit)) (now (numbers .exit)) (now (tape .exit)) (now (output .exit))
+        (now (addresses .exit)) (now (numbers .exit)) (now (moments .exit)) (now (tape .exit)) (now (output .exit))
         ≡ plainLeft (plainWords (now (words .entry)) 1
         (snapshot (machineOf (now (machine .entry)))
-        (now (addresses .entry)) (now (numbers .entry)) (now (tape .entry)) (now (output .entry)))) ⌝ }
+        (now (addresses .entry)) (now (numbers .entry)) (now (moments .entry)) (now (tape .entry)) (now (output .entry)))) ⌝ }
 {
     let ran = machine::lend_and_step(
         words,
         machine_of(*machine),
         addresses,
         numbers,
+        moments,
         tape,
         output,
     );
@@ -81,15 +85,16 @@ pub extern "C" fn ola_run_text(
     machine: &mut [u64; 20],
     addresses: &mut [u64],
     numbers: &mut [u64],
+    moments: &mut [u64],
     tape: &mut [u64],
     output: &mut [u64],
     answer: &mut [u64; 8],
 )
     ensures { λ _. ⌜ buffers (now (answer .exit)) (now (machine .exit))
-        (now (addresses .exit)) (now (numbers .exit)) (now (tape .exit)) (now (output .exit))
+        (now (addresses .exit)) (now (numbers .exit)) (now (moments .exit)) (now (tape .exit)) (now (output .exit))
         ≡ plainLeft (plainText (now (text .entry)) budget
         (snapshot (machineOf (now (machine .entry)))
-        (now (addresses .entry)) (now (numbers .entry)) (now (tape .entry)) (now (output .entry)))) ⌝ }
+        (now (addresses .entry)) (now (numbers .entry)) (now (moments .entry)) (now (tape .entry)) (now (output .entry)))) ⌝ }
 {
     let ran = executor::plain::run_text(
         text,
@@ -97,6 +102,7 @@ pub extern "C" fn ola_run_text(
         machine_of(*machine),
         addresses,
         numbers,
+        moments,
         tape,
         output,
     );
@@ -113,21 +119,23 @@ pub extern "C" fn ola_run_budget_text(
     machine: &mut [u64; 20],
     addresses: &mut [u64],
     numbers: &mut [u64],
+    moments: &mut [u64],
     tape: &mut [u64],
     output: &mut [u64],
     answer: &mut [u64; 8],
 )
     ensures { λ _. ⌜ buffers (now (answer .exit)) (now (machine .exit))
-        (now (addresses .exit)) (now (numbers .exit)) (now (tape .exit)) (now (output .exit))
+        (now (addresses .exit)) (now (numbers .exit)) (now (moments .exit)) (now (tape .exit)) (now (output .exit))
         ≡ plainLeft (plainBudgetText (now (text .entry))
         (snapshot (machineOf (now (machine .entry)))
-        (now (addresses .entry)) (now (numbers .entry)) (now (tape .entry)) (now (output .entry)))) ⌝ }
+        (now (addresses .entry)) (now (numbers .entry)) (now (moments .entry)) (now (tape .entry)) (now (output .entry)))) ⌝ }
 {
     let ran = executor::plain::run_budget_text(
         text,
         machine_of(*machine),
         addresses,
         numbers,
+        moments,
         tape,
         output,
     );
@@ -144,6 +152,7 @@ pub extern "C" fn ola_check_words(
     machine: &[u64; 20],
     addresses: &[u64],
     numbers: &[u64],
+    moments: &[u64],
     tape: &[u64],
     output: &[u64],
     answer: &mut [u64; 8],
@@ -151,7 +160,7 @@ pub extern "C" fn ola_check_words(
     ensures { λ _. ⌜ now (answer .exit)
         ≡ answerRecord (plainWords (now (words .entry)) 0
         (snapshot (machineOf (now (machine .entry)))
-        (now (addresses .entry)) (now (numbers .entry)) (now (tape .entry)) (now (output .entry)))
+        (now (addresses .entry)) (now (numbers .entry)) (now (moments .entry)) (now (tape .entry)) (now (output .entry)))
         .answer) 0 ⌝ }
 {
     let given = executor::plain::check_words(
@@ -159,6 +168,7 @@ pub extern "C" fn ola_check_words(
         machine_of(*machine),
         addresses,
         numbers,
+        moments,
         tape,
         output,
     );
@@ -172,6 +182,7 @@ pub extern "C" fn ola_check_text(
     machine: &[u64; 20],
     addresses: &[u64],
     numbers: &[u64],
+    moments: &[u64],
     tape: &[u64],
     output: &[u64],
     answer: &mut [u64; 8],
@@ -179,7 +190,7 @@ pub extern "C" fn ola_check_text(
     ensures { λ _. ⌜ now (answer .exit)
         ≡ answerRecord (plainText (now (text .entry)) 0
         (snapshot (machineOf (now (machine .entry)))
-        (now (addresses .entry)) (now (numbers .entry)) (now (tape .entry)) (now (output .entry)))
+        (now (addresses .entry)) (now (numbers .entry)) (now (moments .entry)) (now (tape .entry)) (now (output .entry)))
         .answer) 0 ⌝ }
 {
     let given = executor::plain::check_text(
@@ -187,6 +198,7 @@ pub extern "C" fn ola_check_text(
         machine_of(*machine),
         addresses,
         numbers,
+        moments,
         tape,
         output,
     );
@@ -200,6 +212,7 @@ pub extern "C" fn ola_check_budget_text(
     machine: &[u64; 20],
     addresses: &[u64],
     numbers: &[u64],
+    moments: &[u64],
     tape: &[u64],
     output: &[u64],
     answer: &mut [u64; 8],
@@ -207,7 +220,7 @@ pub extern "C" fn ola_check_budget_text(
     ensures { λ _. ⌜ now (answer .exit)
         ≡ answerRecord (plainCall (jobProgram (loadBudgetText (now (text .entry)))) 0
         (snapshot (machineOf (now (machine .entry)))
-        (now (addresses .entry)) (now (numbers .entry)) (now (tape .entry)) (now (output .entry)))
+        (now (addresses .entry)) (now (numbers .entry)) (now (moments .entry)) (now (tape .entry)) (now (output .entry)))
         .answer) 0 ⌝ }
 {
     let given = executor::plain::check_budget_text(
@@ -215,6 +228,7 @@ pub extern "C" fn ola_check_budget_text(
         machine_of(*machine),
         addresses,
         numbers,
+        moments,
         tape,
         output,
     );

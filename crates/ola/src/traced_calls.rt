@@ -15,16 +15,18 @@ pub extern "C" fn ola_traced_run_words(
     machine: &mut [u64; 20],
     addresses: &mut [u64],
     numbers: &mut [u64],
+    moments: &mut [u64],
     tape: &mut [u64],
     output: &mut [u64],
     sheet: &mut [u8],
     answer: &mut [u64; 8],
 )
     ensures { λ _. ⌜ tracedBuffers (now (answer .exit)) (now (machine .exit))
-        (now (addresses .exit)) (now (numbers .exit)) (now (tape .exit)) (now (output .exit)) (now (sheet .exit))
+        (now (addresses .exit)) (now (numbers .exit)) (now (moments .exit)) (now (tape .exit)) (now (output .exit)) (now (sheet .exit))
         ≡ tracedLeft (tracedWords (now (words .entry)) budget
         (tracedSnapshot (machineOf (now (machine .entry)))
-        (now (addresses .entry)) (now (numbers .entry)) (now (tape .entry)) (now (output .entry)) (now (sheet .entry)))) ⌝ }
+        (now (addresses .entry)) (now (numbers .entry)) (now (moments .entry))
+        (now (tape .entry)) (now (output .entry)) (now (sheet .entry)))) ⌝ }
 {
     let ran = traced::run_words(
         words,
@@ -32,6 +34,7 @@ pub extern "C" fn ola_traced_run_words(
         machine_of(*machine),
         addresses,
         numbers,
+        moments,
         tape,
         output,
         sheet,
@@ -50,16 +53,18 @@ pub extern "C" fn ola_traced_run_text(
     machine: &mut [u64; 20],
     addresses: &mut [u64],
     numbers: &mut [u64],
+    moments: &mut [u64],
     tape: &mut [u64],
     output: &mut [u64],
     sheet: &mut [u8],
     answer: &mut [u64; 8],
 )
     ensures { λ _. ⌜ tracedBuffers (now (answer .exit)) (now (machine .exit))
-        (now (addresses .exit)) (now (numbers .exit)) (now (tape .exit)) (now (output .exit)) (now (sheet .exit))
+        (now (addresses .exit)) (now (numbers .exit)) (now (moments .exit)) (now (tape .exit)) (now (output .exit)) (now (sheet .exit))
         ≡ tracedLeft (tracedText (now (text .entry)) budget
         (tracedSnapshot (machineOf (now (machine .entry)))
-        (now (addresses .entry)) (now (numbers .entry)) (now (tape .entry)) (now (output .entry)) (now (sheet .entry)))) ⌝ }
+        (now (addresses .entry)) (now (numbers .entry)) (now (moments .entry))
+        (now (tape .entry)) (now (output .entry)) (now (sheet .entry)))) ⌝ }
 {
     let ran = traced::run_text(
         text,
@@ -67,6 +72,7 @@ pub extern "C" fn ola_traced_run_text(
         machine_of(*machine),
         addresses,
         numbers,
+        moments,
         tape,
         output,
         sheet,
@@ -84,22 +90,25 @@ pub extern "C" fn ola_traced_run_budget_text(
     machine: &mut [u64; 20],
     addresses: &mut [u64],
     numbers: &mut [u64],
+    moments: &mut [u64],
     tape: &mut [u64],
     output: &mut [u64],
     sheet: &mut [u8],
     answer: &mut [u64; 8],
 )
     ensures { λ _. ⌜ tracedBuffers (now (answer .exit)) (now (machine .exit))
-        (now (addresses .exit)) (now (numbers .exit)) (now (tape .exit)) (now (output .exit)) (now (sheet .exit))
+        (now (addresses .exit)) (now (numbers .exit)) (now (moments .exit)) (now (tape .exit)) (now (output .exit)) (now (sheet .exit))
         ≡ tracedLeft (tracedBudgetText (now (text .entry))
         (tracedSnapshot (machineOf (now (machine .entry)))
-        (now (addresses .entry)) (now (numbers .entry)) (now (tape .entry)) (now (output .entry)) (now (sheet .entry)))) ⌝ }
+        (now (addresses .entry)) (now (numbers .entry)) (now (moments .entry))
+        (now (tape .entry)) (now (output .entry)) (now (sheet .entry)))) ⌝ }
 {
     let ran = traced::run_budget_text(
         text,
         machine_of(*machine),
         addresses,
         numbers,
+        moments,
         tape,
         output,
         sheet,

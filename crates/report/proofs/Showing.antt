@@ -17,7 +17,7 @@ use Rattle.report.specs.ReportLines.{Labels, outcome-label, refusal-labe
 -- `reported`, of any meaning
 abbrev called : Meaning → ℕ → Machine → List ℕ → Called Snapshot
 called m steps machine output =
-    record { answer = m; steps = steps; left = record { machine = machine; addresses = []; numbers = []; tape = []; output = output } }
+    record { answer = m; steps = steps; left = record { machine = machine; addresses = []; numbers = []; moments = []; tape = []; output = output } }
 
 regroup : (label fields frame end values : List ℕ) → (label ++ (fields ++ (frame ++ end))) ++ values ≡ label ++ (fields ++ (frame ++ (end ++ values)))
 regroup label fields frame end values = simp append-assoc

@@ -19,7 +19,7 @@ reported answer steps machine output =
     record {
       answer = meaning answer;
       steps = steps;
-      left = record { machine = machine; addresses = []; numbers = []; tape = []; output = output };
+      left = record { machine = machine; addresses = []; numbers = []; moments = []; tape = []; output = output };
     }
 
 -- the label of what an answer means; a callee is not shown

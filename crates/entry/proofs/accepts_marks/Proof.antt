@@ -12,16 +12,16 @@ use Rattle.entry.proofs.accepts_marks.Statement.{statement}
 use Rattle.entry.proofs.accepts_marks.Tie as tie
 
 returns : tie.Need-returns
-returns c tape output = sym (marks-uneven _ (λ e. omega arith))
+returns c moments tape output = sym (marks-uneven _ (λ e. omega arith))
 
 returns-2 : tie.Need-returns-2
-returns-2 c tape output = sym (registers-beyond _ (omega arith))
+returns-2 c moments tape output = sym (registers-beyond _ (omega arith))
 
 registers-below-requires : tie.Need-registers-below-requires
 registers-below-requires c κs = search needs
 
 returns-3 : tie.Need-returns-3
-returns-3 c tape output = sym (register-above _ (sym (c .before .registers-below .ensures) ∙ not-true _ (c .if3 .taken)))
+returns-3 c moments tape output = sym (register-above _ (sym (c .before .registers-below .ensures) ∙ not-true _ (c .if3 .taken)))
 
 used-requires : tie.Need-used-requires
 used-requires c κs = search needs
@@ -41,13 +41,13 @@ cells-below c =
     c .marked-below .ensures ∙ ap₂ (λ ts ns. markedBelow (marked ts) ns) (c .before .before .used .ensures) (c .before .used2 .ensures)
 
 returns-4 : tie.Need-returns-4
-returns-4 c tape output = sym (cell-above _ (sym (cells-below (c .before)) ∙ not-true _ (c .if4 .taken)))
+returns-4 c moments tape output = sym (cell-above _ (sym (cells-below (c .before)) ∙ not-true _ (c .if4 .taken)))
 
 at-most-requires : tie.Need-at-most-requires
 at-most-requires c κs = search needs
 
 returns-5 : tie.Need-returns-5
-returns-5 c tape output =
+returns-5 c moments tape output =
     let t = c .before in
     let u = t .before .before .before in
     let r = u .before in

@@ -19,6 +19,9 @@ slice-aggregate-run-budget-text-3 c = search needs
 slice-aggregate-run-budget-text-4 : tie.Need-slice-aggregate-run-budget-text-4
 slice-aggregate-run-budget-text-4 c = search needs
 
+slice-aggregate-run-budget-text-5 : tie.Need-slice-aggregate-run-budget-text-5
+slice-aggregate-run-budget-text-5 c = search needs
+
 run-budget-text-requires : tie.Need-run-budget-text-requires
 run-budget-text-requires c κs = search needs
 
@@ -33,8 +36,8 @@ same-length c = search needs
 
 returns : tie.Need-returns
 returns c =
-    let called = c .before .before .before .before .before .before .before .before .before .before .run-budget-text in
-    solved _ _ (called .result) _ _ _ _ _ _ _ (c .before .before .before .before .before .before .before .before .before .before .before .before .before .before .before .start .ensures) (called .ensures .0) (c .before .before .print .ensures)
+    let called = c .before .before .before .before .before .before .before .before .before .before .before .run-budget-text in
+    solved _ _ (called .result) _ _ _ _ _ _ _ _ (c .before .before .before .before .before .before .before .before .before .before .before .before .before .before .before .before .before .start .ensures) (called .ensures .0) (c .before .before .print .ensures)
 
 pub solve-spec : {M : Type 1} → statement M
 solve-spec =
@@ -45,6 +48,7 @@ solve-spec =
     slice-aggregate-run-budget-text-2
     slice-aggregate-run-budget-text-3
     slice-aggregate-run-budget-text-4
+    slice-aggregate-run-budget-text-5
     run-budget-text-requires
     slice-aggregate-print
     print-requires

@@ -70,10 +70,10 @@ module _ {M : Type 1} (𝓤 : URA M) (H : Heap 𝓤) (A : Atoms 𝓤) (W : Given
   Walk = walkOf 𝓤 H A self.ended (toldOf 𝓤 H A W self.ended (self.clauses 𝓤 H A at-mem run)) (self.clauses 𝓤 H A at-mem run)
 
   -- the record lies at b and o under the name γ
-  module _ (κw κ : Lft) (qw q : Share) (κs : Lfts 5) (qs : Shares 5) (b o : ℕ) (γ : GName) (h : GuardedMachine)
-      (words addresses numbers marks tape output : Slice) where
+  module _ (κw κ : Lft) (qw q : Share) (κs : Lfts 6) (qs : Shares 6) (b o : ℕ) (γ : GName) (h : GuardedMachine)
+      (words addresses numbers moments marks tape output : Slice) where
     abbrev slices : GuardedSlices
-    slices = (addresses, (numbers, (marks, (tape, (output, tt)))))
+    slices = (addresses, (numbers, (moments, (marks, (tape, (output, tt))))))
 
     -- what the two contracts bind outside
     abbrev bound : Walk .Ghost
@@ -104,7 +104,8 @@ module _ {M : Type 1} (𝓤 : URA M) (H : Heap 𝓤) (A : Atoms 𝓤) (W : Given
     abbrev Said : Ran → Lasts callee.ended (κw, κs) (words, (h .machine, (h .extras, slices))) → Type 0
     Said r zs =
         guardedCalled r (zs .1 .1 .1 .0) (zs .1 .1 .1 .1 .0) (zs .1 .1 .1 .1 .1 .0) (zs .1 .1 .1 .1 .1 .1 .0) (zs .1 .1 .1 .1 .1 .1 .1 .0)
-        ≡ guardedWords (now words) 1 (recordSnapshot h (now addresses) (now numbers) (now marks) (now tape) (now output))
+        (zs .1 .1 .1 .1 .1 .1 .1 .1 .0)
+        ≡ guardedWords (now words) 1 (recordSnapshot h (now addresses) (now numbers) (now moments) (now marks) (now tape) (now output))
 
     -- the record that is stored, which fits
     abbrev kept : Ran → GuardedMachine
@@ -115,15 +116,15 @@ module _ {M : Type 1} (𝓤 : URA M) (H : Heap 𝓤) (A : Atoms 𝓤) (W : Given
 
     module _ (C : Calls 𝓤 H) (Λ : Loops 𝓤 H) (fm : FmC 𝓤 H (W .laws) C) (met : Triple 𝓤 (C #callee) Callee)
         (words-fit : length (now words) < 2 ^ 64) (addresses-fit : length (now addresses) < 2 ^ 64)
-        (numbers-fit : length (now numbers) < 2 ^ 64) (marks-fit : length (now marks) < 2 ^ 64) (tape-fits : length (now tape) < 2 ^ 64)
-        (output-fits : length (now output) < 2 ^ 64) where
+        (numbers-fit : length (now numbers) < 2 ^ 64) (moments-fit : length (now moments) < 2 ^ 64)
+        (marks-fit : length (now marks) < 2 ^ 64) (tape-fits : length (now tape) < 2 ^ 64) (output-fits : length (now output) < 2 ^ 64) where
       walk : ent 𝓤 (onEntry 𝓤 H A self.signature (κw, (κ, κs)) (qw, (q, qs)) (bound .0 .3) (bound .0 .4))
           (WpFn 𝓤 H C Λ code.function (sliceVal (ptr words) (length (now words)) ∷ vptr b o
           ∷ sliceVal (ptr addresses) (length (now addresses)) ∷ sliceVal (ptr numbers) (length (now numbers))
-          ∷ sliceVal (ptr marks) (length (now marks)) ∷ sliceVal (ptr tape) (length (now tape))
-          ∷ sliceVal (ptr output) (length (now output)) ∷ []) (Walk .post bound))
+          ∷ sliceVal (ptr moments) (length (now moments)) ∷ sliceVal (ptr marks) (length (now marks))
+          ∷ sliceVal (ptr tape) (length (now tape)) ∷ sliceVal (ptr output) (length (now output)) ∷ []) (Walk .post bound))
       walk =
-          qed W ((‵ (flft κw qw) ⊛ (‵ (flft κ q) ⊛ raw (toks 𝓤 A 5 κs qs)))
+          qed W ((‵ (flft κw qw) ⊛ (‵ (flft κ q) ⊛ raw (toks 𝓤 A 6 κs qs)))
           ∷ ‵ (owns (typesAt (self.signature .params) (κw, (κ, κs))) (bound .0 .3) (bound .0 .4)) ∷ []) ∵
           split ! $ move ! (1 ∷ []) $ split ! $ move ! (3 ∷ []) $ fsplit ! $ move ! (1 ∷ []) $ fsplit ! $ fsplit3 ! $ drop ! $
           move ! (0 ∷ 1 ∷ 4 ∷ 3 ∷ 2 ∷ 6 ∷ []) $
@@ -132,87 +133,90 @@ module _ {M : Type 1} (𝓤 : URA M) (H : Heap 𝓤) (A : Atoms 𝓤) (W : Given
           alloc1 ! (λ l₀. alloc1 ! (λ l₁. alloc1 ! (λ l₂. alloc1 ! (λ l₃. alloc1 ! (λ l₄. alloc1 ! (λ l₅. alloc1 ! (λ l₆. alloc1 ! (λ l₇.
           alloc1 ! (λ l₈. alloc1 ! (λ l₉. alloc1 ! (λ l₁₀. alloc1 ! (λ l₁₁. alloc1 ! (λ l₁₂. alloc1 ! (λ l₁₃. alloc1 ! (λ l₁₄.
           alloc1 ! (λ l₁₅. alloc1 ! (λ l₁₆. alloc1 ! (λ l₁₇. alloc1 ! (λ l₁₈. alloc1 ! (λ l₁₉. alloc1 ! (λ l₂₀. alloc1 ! (λ l₂₁.
-          alloc1 ! (λ l₂₂. alloc0 ! $
-          params1 ! $ pass1 ! (init ! 42 refl (tt, (tt, (record { fits = words-fit }, tt)))) $ pass1 ! (init ! 40 refl (tt, tt)) $
-          pass1 ! (init ! 38 refl (tt, (tt, (record { fits = addresses-fit }, tt)))) $
-          pass1 ! (init ! 36 refl (tt, (tt, (record { fits = numbers-fit }, tt)))) $
-          pass1 ! (init ! 34 refl (tt, (tt, (record { fits = marks-fit }, tt)))) $
-          pass1 ! (init ! 32 refl (tt, (tt, (record { fits = tape-fits }, tt)))) $
-          pass1 ! (init ! 30 refl (tt, (tt, (record { fits = output-fits }, tt)))) $ pass0 ! $
-          move ! (46 ∷ 47 ∷ 48 ∷ []) $ opens-record ! tt the-guarded-machine b o h (λ g.
-          -- [the record's cell; the open borrow; obs; auth; _22 at 4; …; _i at 4 + 2 (22 - i); …; what the words own, at 50; the buffers;
+          alloc1 ! (λ l₂₂. alloc1 ! (λ l₂₃. alloc1 ! (λ l₂₄. alloc1 ! (λ l₂₅. alloc0 ! $
+          params1 ! $ pass1 ! (init ! 48 refl (tt, (tt, (record { fits = words-fit }, tt)))) $ pass1 ! (init ! 46 refl (tt, tt)) $
+          pass1 ! (init ! 44 refl (tt, (tt, (record { fits = addresses-fit }, tt)))) $
+          pass1 ! (init ! 42 refl (tt, (tt, (record { fits = numbers-fit }, tt)))) $
+          pass1 ! (init ! 40 refl (tt, (tt, (record { fits = moments-fit }, tt)))) $
+          pass1 ! (init ! 38 refl (tt, (tt, (record { fits = marks-fit }, tt)))) $
+          pass1 ! (init ! 36 refl (tt, (tt, (record { fits = tape-fits }, tt)))) $
+          pass1 ! (init ! 34 refl (tt, (tt, (record { fits = output-fits }, tt)))) $ pass0 ! $
+          move ! (52 ∷ 53 ∷ 54 ∷ []) $ opens-record ! tt the-guarded-machine b o h (λ g.
+          -- [the record's cell; the open borrow; obs; auth; _25 at 4; …; _i at 4 + 2 (25 - i); …; what the words own, at 56; the buffers;
           -- the words' token; the buffers' tokens]
-          assigns ! (of-opd ! (load ! (from ! (hop ! (look ! 44 refl) (stop !))) (look-raw ! 0 refl))) (from ! (stop !))
-          (init ! 32 refl (the-guarded-machine .typed 𝓤 H A W h g)) $
-          rewrite ! 32 (λ (u : Val). ‵ (fat fullShare G′.mir l₈ 0 u)) (guarded-machine-val h) refl $
-          assigns ! (of-opd ! (load ! (from ! (fld ! refl (stop !))) (look-in ! 32 (sub ! 0 refl (whole !)))))
-          (from ! (stop !)) (init ! 30 refl (the-machine .typed 𝓤 H A W (h .machine) (machine-fits h g))) $
-          relends ! 42 22 20 refl refl refl refl refl refl refl refl addresses-fit $
-          relends ! 40 18 16 refl refl refl refl refl refl refl refl numbers-fit $
-          relends ! 38 14 12 refl refl refl refl refl refl refl refl marks-fit $
-          relends ! 36 10 8 refl refl refl refl refl refl refl refl tape-fits $
-          relends ! 34 6 4 refl refl refl refl refl refl refl refl output-fits $
+          assigns ! (of-opd ! (load ! (from ! (hop ! (look ! 50 refl) (stop !))) (look-raw ! 0 refl))) (from ! (stop !))
+          (init ! 36 refl (the-guarded-machine .typed 𝓤 H A W h g)) $
+          rewrite ! 36 (λ (u : Val). ‵ (fat fullShare G′.mir l₉ 0 u)) (guarded-machine-val h) refl $
+          assigns ! (of-opd ! (load ! (from ! (fld ! refl (stop !))) (look-in ! 36 (sub ! 0 refl (whole !)))))
+          (from ! (stop !)) (init ! 34 refl (the-machine .typed 𝓤 H A W (h .machine) (machine-fits h g))) $
+          relends ! 48 26 24 refl refl refl refl refl refl refl refl addresses-fit $
+          relends ! 46 22 20 refl refl refl refl refl refl refl refl numbers-fit $
+          relends ! 44 18 16 refl refl refl refl refl refl refl refl moments-fit $
+          relends ! 42 14 12 refl refl refl refl refl refl refl refl marks-fit $
+          relends ! 40 10 8 refl refl refl refl refl refl refl refl tape-fits $
+          relends ! 38 6 4 refl refl refl refl refl refl refl refl output-fits $
           -- what the words, the machine, the extras and the buffers own, and the tokens of words and buffers, go to the callee
-          owns-whole ! the-marks (h .extras) (extras-fit h g) $ move ! (0 ∷ 52 ∷ []) $ fjoin ! $
-          owns-whole ! the-machine (h .machine) (machine-fits h g) $ fjoin ! $ move ! (51 ∷ 0 ∷ []) $ fjoin ! $
-          move ! (51 ∷ 52 ∷ []) $ join ! $ use1 W (raw (toks 𝓤 A 6 (κw, κs) (qw, qs))) (id⊢ 𝓤 _) $
+          owns-whole ! the-marks (h .extras) (extras-fit h g) $ move ! (0 ∷ 58 ∷ []) $ fjoin ! $
+          owns-whole ! the-machine (h .machine) (machine-fits h g) $ fjoin ! $ move ! (57 ∷ 0 ∷ []) $ fjoin ! $
+          move ! (57 ∷ 58 ∷ []) $ join ! $ use1 W (raw (toks 𝓤 A 7 (κw, κs) (qw, qs))) (id⊢ 𝓤 _) $
           calls-told ! fm callee.ended (callee.clauses 𝓤 H A at-mem run) met bound-callee (id⊢ 𝓤 _)
-          (and-then ! (load ! (from ! (stop !)) (look ! 47 refl)) (and-then ! (load ! (from ! (stop !)) (look ! 31 refl))
-          (and-then ! (load ! (from ! (fld ! refl (stop !))) (look-in ! 33 (sub ! 1 refl (whole !))))
-          (and-then ! (load ! (from ! (stop !)) (look ! 21 refl)) (and-then ! (load ! (from ! (stop !)) (look ! 17 refl))
-          (and-then ! (load ! (from ! (stop !)) (look ! 13 refl)) (and-then ! (load ! (from ! (stop !)) (look ! 9 refl))
-          (and-then ! (load ! (from ! (stop !)) (look ! 5 refl))
-          (no-more !))))))))) (λ v r zs.
+          (and-then ! (load ! (from ! (stop !)) (look ! 53 refl)) (and-then ! (load ! (from ! (stop !)) (look ! 35 refl))
+          (and-then ! (load ! (from ! (fld ! refl (stop !))) (look-in ! 37 (sub ! 1 refl (whole !))))
+          (and-then ! (load ! (from ! (stop !)) (look ! 25 refl)) (and-then ! (load ! (from ! (stop !)) (look ! 21 refl))
+          (and-then ! (load ! (from ! (stop !)) (look ! 17 refl)) (and-then ! (load ! (from ! (stop !)) (look ! 13 refl))
+          (and-then ! (load ! (from ! (stop !)) (look ! 9 refl)) (and-then ! (load ! (from ! (stop !)) (look ! 5 refl))
+          (no-more !)))))))))) (λ v r zs.
           known ! the-ran r v (λ is f. move ! (2 ∷ []) $ heard ! (Said r zs) (λ e.
-          -- [the callee's tokens; what is said of the last lists; the record's cell; the open borrow; obs; auth; _22 at 6; …]
+          -- [the callee's tokens; what is said of the last lists; the record's cell; the open borrow; obs; auth; _25 at 6; …]
           land ! (from ! (stop !))
-          (init ! 30 refl (subst (λ (u : Val). Holds (hasTy R′.mir u) × WT u) (sym is) (the-ran .typed 𝓤 H A W r f))) $
-          rewrite ! 30 (λ (u : Val). ‵ (fat fullShare R′.mir l₁₀ 0 u)) (is ∙ ran-val r) refl $
-          assigns ! (of-opd ! (load ! (from ! (fld ! refl (stop !))) (look-in ! 30 (sub ! 2 refl (whole !)))))
-          (from ! (stop !)) (init ! 28 refl (the-machine .typed 𝓤 H A W (r .machine) (ran-machine-fits r f))) $
-          assigns ! (agg ! (and-then ! (load ! (from ! (stop !)) (look ! 28 refl))
-          (and-then ! (load ! (from ! (fld ! refl (stop !))) (look-in ! 30 (sub ! 3 refl (whole !)))) (no-more !))))
-          (from ! (hop ! (look ! 46 refl) (stop !))) (store-raw ! 2 refl (subst (λ (u : Val). Holds (hasTy G′.mir u) × WT u)
+          (init ! 34 refl (subst (λ (u : Val). Holds (hasTy R′.mir u) × WT u) (sym is) (the-ran .typed 𝓤 H A W r f))) $
+          rewrite ! 34 (λ (u : Val). ‵ (fat fullShare R′.mir l₁₁ 0 u)) (is ∙ ran-val r) refl $
+          assigns ! (of-opd ! (load ! (from ! (fld ! refl (stop !))) (look-in ! 34 (sub ! 2 refl (whole !)))))
+          (from ! (stop !)) (init ! 32 refl (the-machine .typed 𝓤 H A W (r .machine) (ran-machine-fits r f))) $
+          assigns ! (agg ! (and-then ! (load ! (from ! (stop !)) (look ! 32 refl))
+          (and-then ! (load ! (from ! (fld ! refl (stop !))) (look-in ! 34 (sub ! 3 refl (whole !)))) (no-more !))))
+          (from ! (hop ! (look ! 52 refl) (stop !))) (store-raw ! 2 refl (subst (λ (u : Val). Holds (hasTy G′.mir u) × WT u)
           (guarded-machine-val (kept r)) (the-guarded-machine .typed 𝓤 H A W (kept r) (kept-fits r f)))) $
           rewrite ! 2 (λ (u : Val). ‵ (fat fullShare (rawTy G′.mir) b o u)) (sym (guarded-machine-val (kept r))) refl $
-          assigns ! (of-opd ! (load ! (from ! (fld ! refl (stop !))) (look-in ! 30 (sub ! 0 refl (whole !)))))
-          (from ! (stop !)) (init ! 26 refl (the-answer .typed 𝓤 H A W (r .answer) (ran-answer-fits r f))) $
-          assigns ! (agg ! (and-then ! (load ! (from ! (stop !)) (look ! 26 refl))
-          (and-then ! (load ! (from ! (fld ! refl (stop !))) (look-in ! 30 (sub ! 1 refl (whole !)))) (no-more !))))
-          (from ! (stop !)) (init ! 50 refl (subst (λ (u : Val). Holds (hasTy A′.mir u) × WT u) (answered-val (answered r))
+          assigns ! (of-opd ! (load ! (from ! (fld ! refl (stop !))) (look-in ! 34 (sub ! 0 refl (whole !)))))
+          (from ! (stop !)) (init ! 30 refl (the-answer .typed 𝓤 H A W (r .answer) (ran-answer-fits r f))) $
+          assigns ! (agg ! (and-then ! (load ! (from ! (stop !)) (look ! 30 refl))
+          (and-then ! (load ! (from ! (fld ! refl (stop !))) (look-in ! 34 (sub ! 1 refl (whole !)))) (no-more !))))
+          (from ! (stop !)) (init ! 56 refl (subst (λ (u : Val). Holds (hasTy A′.mir u) × WT u) (answered-val (answered r))
           (the-answered .typed 𝓤 H A W (answered r) (answered-fits r f)))) $
-          rewrite ! 50 (λ (u : Val). ‵ (fat fullShare A′.mir l₀ 0 u)) (sym (answered-val (answered r))) refl $
+          rewrite ! 56 (λ (u : Val). ‵ (fat fullShare A′.mir l₀ 0 u)) (sym (answered-val (answered r))) refl $
           move ! (2 ∷ 3 ∷ 4 ∷ 5 ∷ []) $ closes-record ! tt the-guarded-machine b o (kept r) (kept-fits r f) $
-          -- [what is said of the record; its token; the callee's tokens; what is said of the last lists; _22 at 4; …]
-          returns ! (look ! 48 refl) $ freed ! 48 refl refl $ freed ! 46 refl refl $ freed ! 44 refl refl $ freed ! 42 refl refl $
-          freed ! 40 refl refl $ freed ! 38 refl refl $ freed ! 36 refl refl $ freed ! 34 refl refl $ freed ! 32 refl refl $
-          freed ! 30 refl refl $ freed ! 28 refl refl $ freed ! 26 refl refl $ freed ! 24 refl refl $ freed ! 22 refl refl $
-          freed ! 20 refl refl $ freed ! 18 refl refl $ freed ! 16 refl refl $ freed ! 14 refl refl $ freed ! 12 refl refl $
-          freed ! 10 refl refl $ freed ! 8 refl refl $ freed ! 6 refl refl $ freed ! 4 refl refl $ free0 ! $
+          -- [what is said of the record; its token; the callee's tokens; what is said of the last lists; _25 at 4; …]
+          returns ! (look ! 54 refl) $ freed ! 54 refl refl $ freed ! 52 refl refl $ freed ! 50 refl refl $ freed ! 48 refl refl $
+          freed ! 46 refl refl $ freed ! 44 refl refl $ freed ! 42 refl refl $ freed ! 40 refl refl $ freed ! 38 refl refl $
+          freed ! 36 refl refl $ freed ! 34 refl refl $ freed ! 32 refl refl $ freed ! 30 refl refl $ freed ! 28 refl refl $
+          freed ! 26 refl refl $ freed ! 24 refl refl $ freed ! 22 refl refl $ freed ! 20 refl refl $ freed ! 18 refl refl $
+          freed ! 16 refl refl $ freed ! 14 refl refl $ freed ! 12 refl refl $ freed ! 10 refl refl $ freed ! 8 refl refl $
+          freed ! 6 refl refl $ freed ! 4 refl refl $ free0 ! $
           move ! (3 ∷ []) $ fsplit ! $ drop ! $ fsplit ! $ drop ! $ fsplit ! $ drop ! $ move ! (1 ∷ 0 ∷ []) $ fjoin ! $
-          nothing ! $ fjoin ! $ move ! (2 ∷ []) $ use1 W (‵ (flft κw qw) ⊛ raw (toks 𝓤 A 5 κs qs)) (id⊢ 𝓤 _) $ split ! $
+          nothing ! $ fjoin ! $ move ! (2 ∷ []) $ use1 W (‵ (flft κw qw) ⊛ raw (toks 𝓤 A 6 κs qs)) (id⊢ 𝓤 _) $ split ! $
           move ! (3 ∷ 1 ∷ []) $ join ! $ move ! (1 ∷ 0 ∷ []) $ join ! $
           owns-whole ! the-answered (answered r) (answered-fits r f) $ move ! (1 ∷ 2 ∷ 0 ∷ []) $
           by ! (ends-told 𝓤 H A W self.ended (self.clauses 𝓤 H A at-mem run) bound _ (answered r) (zs .0, (kept r, zs .1 .1 .1))
-          (factI 𝓤 _ _ e)))))))))))))))))))))))))))))
+          (factI 𝓤 _ _ e))))))))))))))))))))))))))))))))
 
   meets : (𝓣 : Tables 𝓤 H) → Triple 𝓤 (𝓣 .C #callee) Callee
       → Meets 𝓤 H A self.signature (WpFn 𝓤 H (𝓣 .C) (𝓣 .Λ) code.function) (self.spec 𝓤 H A at-mem run)
   meets 𝓣 met = meets-told 𝓤 H A W self.ended (self.clauses 𝓤 H A at-mem run) 𝓣 code.function
-      (λ κs. (slice-vals, (ptr-vals, (slice-vals, (slice-vals, (slice-vals, (slice-vals, (slice-vals, tt))))))))
+      (λ κs. (slice-vals, (ptr-vals, (slice-vals, (slice-vals, (slice-vals, (slice-vals, (slice-vals, (slice-vals, tt)))))))))
       (λ κs. (
         words-tell,
         (
           mut-tells (named 1) (κs .1 .0) the-row,
-          (buffer-tells, (buffer-tells, (buffer-tells, (buffer-tells, (buffer-tells, tt))))),
+          (buffer-tells, (buffer-tells, (buffer-tells, (buffer-tells, (buffer-tells, (buffer-tells, tt)))))),
         ),
       ))
       (λ κs qs bounds a _ are. walk (κs .0) (κs .1 .0) (qs .0) (qs .1 .0) (κs .1 .1) (qs .1 .1)
       (a .1 .0 .ptr .0) (a .1 .0 .ptr .1) (a .1 .0 .name) (a .1 .0 .now)
-      (a .0) (a .1 .1 .0) (a .1 .1 .1 .0) (a .1 .1 .1 .1 .0) (a .1 .1 .1 .1 .1 .0) (a .1 .1 .1 .1 .1 .1 .0)
+      (a .0) (a .1 .1 .0) (a .1 .1 .1 .0) (a .1 .1 .1 .1 .0) (a .1 .1 .1 .1 .1 .0) (a .1 .1 .1 .1 .1 .1 .0) (a .1 .1 .1 .1 .1 .1 .1 .0)
       (𝓣 .C) (𝓣 .Λ) (fmOf 𝓤 H (W .laws) 𝓣) met
       (are .0 .0 .1 .0) (are .1 .1 .0 .0 .1 .0) (are .1 .1 .1 .0 .0 .1 .0) (are .1 .1 .1 .1 .0 .0 .1 .0) (are .1 .1 .1 .1 .1 .0 .0 .1 .0)
-      (are .1 .1 .1 .1 .1 .1 .0 .0 .1 .0))
+      (are .1 .1 .1 .1 .1 .1 .0 .0 .1 .0) (are .1 .1 .1 .1 .1 .1 .1 .0 .0 .1 .0))
 
 pub guarded-step-spec : {M : Type 1} → stated.statement M
 unfolding code.routine tablesOf

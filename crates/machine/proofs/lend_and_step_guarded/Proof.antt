@@ -66,10 +66,10 @@ module _ {M : Type 1} (𝓤 : URA M) (H : Heap 𝓤) (A : Atoms 𝓤) (W : Given
   abbrev Walk : Contract 𝓤
   Walk = walkOf 𝓤 H A self.ended (toldOf 𝓤 H A W self.ended (self.clauses 𝓤 H A at-mem run)) (self.clauses 𝓤 H A at-mem run)
 
-  module _ (κw : Lft) (qw : Share) (κs : Lfts 5) (qs : Shares 5) (h : GuardedMachine)
-      (words addresses numbers marks tape output : Slice) where
+  module _ (κw : Lft) (qw : Share) (κs : Lfts 6) (qs : Shares 6) (h : GuardedMachine)
+      (words addresses numbers moments marks tape output : Slice) where
     abbrev slices : GuardedSlices
-    slices = (addresses, (numbers, (marks, (tape, (output, tt)))))
+    slices = (addresses, (numbers, (moments, (marks, (tape, (output, tt))))))
 
     -- what this function's contract binds outside
     abbrev bound : Walk .Ghost
@@ -108,19 +108,20 @@ module _ {M : Type 1} (𝓤 : URA M) (H : Heap 𝓤) (A : Atoms 𝓤) (W : Given
       abbrev Said : Answered → Lasts callee.ended (κw, (ν ∷ [], κs)) (words, (lent, slices)) → Type 0
       Said r zs =
           guardedStepped (zs .1 .0) r (zs .1 .1 .0) (zs .1 .1 .1 .0) (zs .1 .1 .1 .1 .0) (zs .1 .1 .1 .1 .1 .0) (zs .1 .1 .1 .1 .1 .1 .0)
-          ≡ guardedWords (now words) 1 (recordSnapshot h (now addresses) (now numbers) (now marks) (now tape) (now output))
+          (zs .1 .1 .1 .1 .1 .1 .1 .0)
+          ≡ guardedWords (now words) 1 (recordSnapshot h (now addresses) (now numbers) (now moments) (now marks) (now tape) (now output))
 
     module _ (C : Calls 𝓤 H) (Λ : Loops 𝓤 H) (fm : FmC 𝓤 H (W .laws) C) (met : Triple 𝓤 (C #callee) Callee)
         (words-fit : length (now words) < 2 ^ 64) (addresses-fit : length (now addresses) < 2 ^ 64)
-        (numbers-fit : length (now numbers) < 2 ^ 64) (marks-fit : length (now marks) < 2 ^ 64) (tape-fits : length (now tape) < 2 ^ 64)
-        (output-fits : length (now output) < 2 ^ 64) (g : the-guarded-machine .Fits h) where
+        (numbers-fit : length (now numbers) < 2 ^ 64) (moments-fit : length (now moments) < 2 ^ 64)
+        (marks-fit : length (now marks) < 2 ^ 64) (tape-fits : length (now tape) < 2 ^ 64) (output-fits : length (now output) < 2 ^ 64) (g : the-guarded-machine .Fits h) where
       walk : ent 𝓤 (onEntry 𝓤 H A self.signature (κw, κs) (qw, qs) (bound .0 .3) (bound .0 .4))
           (WpFn 𝓤 H C Λ code.function (sliceVal (ptr words) (length (now words)) ∷ the-guarded-machine .val h
           ∷ sliceVal (ptr addresses) (length (now addresses)) ∷ sliceVal (ptr numbers) (length (now numbers))
-          ∷ sliceVal (ptr marks) (length (now marks)) ∷ sliceVal (ptr tape) (length (now tape))
-          ∷ sliceVal (ptr output) (length (now output)) ∷ []) (Walk .post bound))
+          ∷ sliceVal (ptr moments) (length (now moments)) ∷ sliceVal (ptr marks) (length (now marks))
+          ∷ sliceVal (ptr tape) (length (now tape)) ∷ sliceVal (ptr output) (length (now output)) ∷ []) (Walk .post bound))
       walk =
-          qed W ((‵ (flft κw qw) ⊛ raw (toks 𝓤 A 5 κs qs))
+          qed W ((‵ (flft κw qw) ⊛ raw (toks 𝓤 A 6 κs qs))
           ∷ ‵ (owns (typesAt (self.signature .params) (κw, κs)) (bound .0 .3) (bound .0 .4)) ∷ []) ∵
           split ! $ move ! (2 ∷ []) $ fsplit ! $ move ! (1 ∷ []) $ fsplit ! $ drop ! $
           -- [what the buffers own; what the words own; the words' token; the buffers' tokens]
@@ -128,88 +129,95 @@ module _ {M : Type 1} (𝓤 : URA M) (H : Heap 𝓤) (A : Atoms 𝓤) (W : Given
           alloc1 ! (λ l₀. alloc1 ! (λ l₁. alloc1 ! (λ l₂. alloc1 ! (λ l₃. alloc1 ! (λ l₄. alloc1 ! (λ l₅. alloc1 ! (λ l₆. alloc1 ! (λ l₇.
           alloc1 ! (λ l₈. alloc1 ! (λ l₉. alloc1 ! (λ l₁₀. alloc1 ! (λ l₁₁. alloc1 ! (λ l₁₂. alloc1 ! (λ l₁₃. alloc1 ! (λ l₁₄.
           alloc1 ! (λ l₁₅. alloc1 ! (λ l₁₆. alloc1 ! (λ l₁₇. alloc1 ! (λ l₁₈. alloc1 ! (λ l₁₉. alloc1 ! (λ l₂₀. alloc1 ! (λ l₂₁.
-          alloc1 ! (λ l₂₂. alloc1 ! (λ l₂₃. alloc0 ! $
-          params1 ! $ pass1 ! (init ! 44 refl (tt, (tt, (record { fits = words-fit }, tt)))) $
-          pass1 ! (init ! 42 refl (the-guarded-machine .typed 𝓤 H A W h g)) $
-          pass1 ! (init ! 40 refl (tt, (tt, (record { fits = addresses-fit }, tt)))) $
-          pass1 ! (init ! 38 refl (tt, (tt, (record { fits = numbers-fit }, tt)))) $
-          pass1 ! (init ! 36 refl (tt, (tt, (record { fits = marks-fit }, tt)))) $
-          pass1 ! (init ! 34 refl (tt, (tt, (record { fits = tape-fits }, tt)))) $
-          pass1 ! (init ! 32 refl (tt, (tt, (record { fits = output-fits }, tt)))) $ pass0 ! $
-          -- [_23; …; _i at 2 (23 - i); …; what the buffers own, at 48; the words; the words' token; the buffers' tokens]
-          assigns ! (of-opd ! (load ! (from ! (stop !)) (look ! 42 refl))) (from ! (stop !))
-          (init ! 30 refl (the-guarded-machine .typed 𝓤 H A W h g)) $
-          assigns ! (addr ! (from ! (stop !))) (from ! (stop !)) (init ! 22 refl (tt, tt)) $
-          relends ! 40 20 18 refl refl refl refl refl refl refl refl addresses-fit $
-          relends ! 38 16 14 refl refl refl refl refl refl refl refl numbers-fit $
-          relends ! 36 12 10 refl refl refl refl refl refl refl refl marks-fit $
-          relends ! 34 8 6 refl refl refl refl refl refl refl refl tape-fits $
-          relends ! 32 4 2 refl refl refl refl refl refl refl refl output-fits $
-          -- _8 is lent for a lifetime ν
-          lft-new ! tt (λ ν. move ! (31 ∷ []) $ lends-record ! tt the-guarded-machine (ν ∷ []) l₈ 0 h g (λ δ.
-          -- [the reference; the lender's part; ν's token; _23 at 3; …; _9 at 31; what frees _8, at 33; _7 at 34; …; what the buffers own,
-          -- at 50; the words; the words' token; the buffers' tokens]
-          move ! (0 ∷ 50 ∷ []) $ fjoin ! $ move ! (50 ∷ 0 ∷ []) $ fjoin ! $ move ! (2 ∷ 51 ∷ []) $ join ! $ move ! (50 ∷ 0 ∷ []) $ join ! $
-          use1 W (raw (toks 𝓤 A 7 (κw, (ν ∷ [], κs)) (qw, (fullShare, qs)))) (id⊢ 𝓤 _) $
-          calls-told ! fm callee.ended (callee.clauses 𝓤 H A at-mem run) met (bound-callee l₈ ν δ) (id⊢ 𝓤 _)
-          (and-then ! (load ! (from ! (stop !)) (look ! 45 refl)) (and-then ! (load ! (from ! (stop !)) (look ! 24 refl))
-          (and-then ! (load ! (from ! (stop !)) (look ! 20 refl)) (and-then ! (load ! (from ! (stop !)) (look ! 16 refl))
-          (and-then ! (load ! (from ! (stop !)) (look ! 12 refl)) (and-then ! (load ! (from ! (stop !)) (look ! 8 refl))
-          (and-then ! (load ! (from ! (stop !)) (look ! 4 refl))
-          (no-more !)))))))) (λ v r zs.
-          known ! the-answered r v (λ is f. move ! (2 ∷ []) $ heard ! (Said l₈ ν δ r zs) (λ e.
-          -- [the tokens; what is said of the last values; the lender's part; _23 at 3; …; _9 at 31; what frees _8, at 33; _7 at 34; …]
+          alloc1 ! (λ l₂₂. alloc1 ! (λ l₂₃. alloc1 ! (λ l₂₄. alloc1 ! (λ l₂₅. alloc1 ! (λ l₂₆. alloc0 ! $
+          params1 ! $ pass1 ! (init ! 50 refl (tt, (tt, (record { fits = words-fit }, tt)))) $
+          pass1 ! (init ! 48 refl (the-guarded-machine .typed 𝓤 H A W h g)) $
+          pass1 ! (init ! 46 refl (tt, (tt, (record { fits = addresses-fit }, tt)))) $
+          pass1 ! (init ! 44 refl (tt, (tt, (record { fits = numbers-fit }, tt)))) $
+          pass1 ! (init ! 42 refl (tt, (tt, (record { fits = moments-fit }, tt)))) $
+          pass1 ! (init ! 40 refl (tt, (tt, (record { fits = marks-fit }, tt)))) $
+          pass1 ! (init ! 38 refl (tt, (tt, (record { fits = tape-fits }, tt)))) $
+          pass1 ! (init ! 36 refl (tt, (tt, (record { fits = output-fits }, tt)))) $ pass0 ! $
+          -- [_26; …; _i at 2 (26 - i); …; what the buffers own, at 54; the words; the words' token; the buffers' tokens]
+          assigns ! (of-opd ! (load ! (from ! (stop !)) (look ! 48 refl))) (from ! (stop !))
+          (init ! 34 refl (the-guarded-machine .typed 𝓤 H A W h g)) $
+          assigns ! (addr ! (from ! (stop !))) (from ! (stop !)) (init ! 26 refl (tt, tt)) $
+          relends ! 46 24 22 refl refl refl refl refl refl refl refl addresses-fit $
+          relends ! 44 20 18 refl refl refl refl refl refl refl refl numbers-fit $
+          relends ! 42 16 14 refl refl refl refl refl refl refl refl moments-fit $
+          relends ! 40 12 10 refl refl refl refl refl refl refl refl marks-fit $
+          relends ! 38 8 6 refl refl refl refl refl refl refl refl tape-fits $
+          relends ! 36 4 2 refl refl refl refl refl refl refl refl output-fits $
+          -- _9 is lent for a lifetime ν
+          lft-new ! tt (λ ν. move ! (35 ∷ []) $ lends-record ! tt the-guarded-machine (ν ∷ []) l₉ 0 h g (λ δ.
+          -- [the reference; the lender's part; ν's token; _26 at 3; …; _10 at 35; what frees _9, at 37; _8 at 38; …; what the buffers own,
+          -- at 56; the words; the words' token; the buffers' tokens]
+          move ! (0 ∷ 56 ∷ []) $ fjoin ! $ move ! (56 ∷ 0 ∷ []) $ fjoin ! $ move ! (2 ∷ 57 ∷ []) $ join ! $ move ! (56 ∷ 0 ∷ []) $ join ! $
+          use1 W (raw (toks 𝓤 A 8 (κw, (ν ∷ [], κs)) (qw, (fullShare, qs)))) (id⊢ 𝓤 _) $
+          calls-told ! fm callee.ended (callee.clauses 𝓤 H A at-mem run) met (bound-callee l₉ ν δ) (id⊢ 𝓤 _)
+          (and-then ! (load ! (from ! (stop !)) (look ! 51 refl)) (and-then ! (load ! (from ! (stop !)) (look ! 28 refl))
+          (and-then ! (load ! (from ! (stop !)) (look ! 24 refl)) (and-then ! (load ! (from ! (stop !)) (look ! 20 refl))
+          (and-then ! (load ! (from ! (stop !)) (look ! 16 refl)) (and-then ! (load ! (from ! (stop !)) (look ! 12 refl))
+          (and-then ! (load ! (from ! (stop !)) (look ! 8 refl)) (and-then ! (load ! (from ! (stop !)) (look ! 4 refl))
+          (no-more !))))))))) (λ v r zs.
+          known ! the-answered r v (λ is f. move ! (2 ∷ []) $ heard ! (Said l₉ ν δ r zs) (λ e.
+          -- [the tokens; what is said of the last values; the lender's part; _26 at 3; …; _10 at 35; what frees _9, at 37; _8 at 38; …]
           land ! (from ! (stop !))
-          (init ! 31 refl (subst (λ (u : Val). Holds (hasTy A′.mir u) × WT u) (sym is) (the-answered .typed 𝓤 H A W r f))) $
-          rewrite ! 31 (λ (u : Val). ‵ (fat fullShare A′.mir l₉ 0 u)) (is ∙ answered-val r) refl $
-          -- ν is ended, and _8 is back
-          use1 W (‵ (flft κw qw) ⊛ (‵ (flft (ν ∷ []) fullShare) ⊛ raw (toks 𝓤 A 5 κs qs))) (id⊢ 𝓤 _) $ split ! $ move ! (1 ∷ []) $ split ! $
+          (init ! 35 refl (subst (λ (u : Val). Holds (hasTy A′.mir u) × WT u) (sym is) (the-answered .typed 𝓤 H A W r f))) $
+          rewrite ! 35 (λ (u : Val). ‵ (fat fullShare A′.mir l₁₀ 0 u)) (is ∙ answered-val r) refl $
+          -- ν is ended, and _9 is back
+          use1 W (‵ (flft κw qw) ⊛ (‵ (flft (ν ∷ []) fullShare) ⊛ raw (toks 𝓤 A 6 κs qs))) (id⊢ 𝓤 _) $ split ! $ move ! (1 ∷ []) $ split ! $
           lft-end ! tt $ move ! (3 ∷ []) $ fsplit ! $ drop ! $ fsplit ! $ move ! (2 ∷ 5 ∷ 0 ∷ []) $
-          record-back ! tt the-guarded-machine l₈ 0 (zs .1 .0) (λ g′. move ! (0 ∷ 34 ∷ []) $
-          -- [_8; what frees it; what is said of the last lists; the buffers' tokens; the words' token; _23 at 5; …; _9 at 33; …; _7 at 35;
-          -- …; _0 at 49; …]
-          rewrite ! 0 (λ (u : Val). ‵ (fat fullShare G′.mir l₈ 0 u)) (guarded-machine-val (zs .1 .0)) refl $
-          assigns ! (of-opd ! (load ! (from ! (fld ! refl (stop !))) (look-in ! 33 (sub ! 0 refl (whole !)))))
-          (from ! (stop !)) (init ! 31 refl (the-answer .typed 𝓤 H A W (r .answer) (answer-fits r f))) $
+          record-back ! tt the-guarded-machine l₉ 0 (zs .1 .0) (λ g′. move ! (0 ∷ 38 ∷ []) $
+          -- [_9; what frees it; what is said of the last lists; the buffers' tokens; the words' token; _26 at 5; …; _10 at 37; …; _8 at 39;
+          -- …; _0 at 55; …]
+          rewrite ! 0 (λ (u : Val). ‵ (fat fullShare G′.mir l₉ 0 u)) (guarded-machine-val (zs .1 .0)) refl $
+          assigns ! (of-opd ! (load ! (from ! (fld ! refl (stop !))) (look-in ! 37 (sub ! 0 refl (whole !)))))
+          (from ! (stop !)) (init ! 35 refl (the-answer .typed 𝓤 H A W (r .answer) (answer-fits r f))) $
           assigns ! (of-opd ! (load ! (from ! (fld ! refl (stop !))) (look-in ! 0 (sub ! 0 refl (whole !)))))
-          (from ! (stop !)) (init ! 29 refl (the-machine .typed 𝓤 H A W (zs .1 .0 .machine) (machine-fits (zs .1 .0) g′))) $
+          (from ! (stop !)) (init ! 33 refl (the-machine .typed 𝓤 H A W (zs .1 .0 .machine) (machine-fits (zs .1 .0) g′))) $
           assigns ! (of-opd ! (load ! (from ! (fld ! refl (stop !))) (look-in ! 0 (sub ! 1 refl (whole !)))))
           (from ! (stop !)) (init ! 5 refl (the-marks .typed 𝓤 H A W (zs .1 .0 .extras) (extras-fit (zs .1 .0) g′))) $
           assigns ! (agg !
-          (and-then ! (load ! (from ! (stop !)) (look ! 31 refl))
-          (and-then ! (load ! (from ! (fld ! refl (stop !))) (look-in ! 33 (sub ! 1 refl (whole !))))
-          (and-then ! (load ! (from ! (stop !)) (look ! 29 refl)) (and-then ! (load ! (from ! (stop !)) (look ! 5 refl))
+          (and-then ! (load ! (from ! (stop !)) (look ! 35 refl))
+          (and-then ! (load ! (from ! (fld ! refl (stop !))) (look-in ! 37 (sub ! 1 refl (whole !))))
+          (and-then ! (load ! (from ! (stop !)) (look ! 33 refl)) (and-then ! (load ! (from ! (stop !)) (look ! 5 refl))
           (no-more !))))))
-          (from ! (stop !)) (init ! 49 refl (subst (λ (u : Val). Holds (hasTy R′.mir u) × WT u) (ran-val (result (zs .1 .0) r))
+          (from ! (stop !)) (init ! 55 refl (subst (λ (u : Val). Holds (hasTy R′.mir u) × WT u) (ran-val (result (zs .1 .0) r))
           (the-ran .typed 𝓤 H A W (result (zs .1 .0) r)
           (ran-fits (zs .1 .0 .machine) (zs .1 .0 .extras) r (machine-fits (zs .1 .0) g′) (extras-fit (zs .1 .0) g′) f)))) $
-          rewrite ! 49 (λ (u : Val). ‵ (fat fullShare R′.mir l₀ 0 u)) (sym (ran-val (result (zs .1 .0) r))) refl $
-          returns ! (look ! 49 refl) $ freed ! 49 refl refl $ freed ! 47 refl refl $ freed ! 45 refl refl $ freed ! 43 refl refl $
-          freed ! 41 refl refl $ freed ! 39 refl refl $ freed ! 37 refl refl $ freed ! 35 refl refl $ freed ! 0 refl refl $
-          freed ! 31 refl refl $ freed ! 29 refl refl $ freed ! 27 refl refl $ freed ! 25 refl refl $ freed ! 23 refl refl $
-          freed ! 21 refl refl $ freed ! 19 refl refl $ freed ! 17 refl refl $ freed ! 15 refl refl $ freed ! 13 refl refl $
-          freed ! 11 refl refl $ freed ! 9 refl refl $ freed ! 7 refl refl $ freed ! 5 refl refl $ freed ! 3 refl refl $ free0 ! $
+          rewrite ! 55 (λ (u : Val). ‵ (fat fullShare R′.mir l₀ 0 u)) (sym (ran-val (result (zs .1 .0) r))) refl $
+          returns ! (look ! 55 refl) $ freed ! 55 refl refl $ freed ! 53 refl refl $ freed ! 51 refl refl $ freed ! 49 refl refl $
+          freed ! 47 refl refl $ freed ! 45 refl refl $ freed ! 43 refl refl $ freed ! 41 refl refl $ freed ! 39 refl refl $
+          freed ! 0 refl refl $ freed ! 35 refl refl $ freed ! 33 refl refl $ freed ! 31 refl refl $ freed ! 29 refl refl $
+          freed ! 27 refl refl $ freed ! 25 refl refl $ freed ! 23 refl refl $ freed ! 21 refl refl $ freed ! 19 refl refl $
+          freed ! 17 refl refl $ freed ! 15 refl refl $ freed ! 13 refl refl $ freed ! 11 refl refl $ freed ! 9 refl refl $
+          freed ! 7 refl refl $ freed ! 5 refl refl $ freed ! 3 refl refl $ free0 ! $
           nothing ! $ fjoin ! $ nothing ! $ fjoin ! $ move ! (2 ∷ 1 ∷ []) $ join ! $
           owns-whole ! the-ran (result (zs .1 .0) r)
           (ran-fits (zs .1 .0 .machine) (zs .1 .0 .extras) r (machine-fits (zs .1 .0) g′) (extras-fit (zs .1 .0) g′) f) $
           move ! (1 ∷ 2 ∷ 0 ∷ []) $
           by ! (ends-told 𝓤 H A W self.ended (self.clauses 𝓤 H A at-mem run) bound _ (result (zs .1 .0) r) (zs .0, (tt, zs .1 .1))
-          (factI 𝓤 _ _ e))))))))))))))))))))))))))))))))
+          (factI 𝓤 _ _ e)))))))))))))))))))))))))))))))))))
 
   meets : (𝓣 : Tables 𝓤 H) → Triple 𝓤 (𝓣 .C #callee) Callee
       → Meets 𝓤 H A self.signature (WpFn 𝓤 H (𝓣 .C) (𝓣 .Λ) code.function) (self.spec 𝓤 H A at-mem run)
   meets 𝓣 met = meets-told 𝓤 H A W self.ended (self.clauses 𝓤 H A at-mem run) 𝓣 code.function
-      (λ κs. (slice-vals, (vals-of the-guarded-machine, (slice-vals, (slice-vals, (slice-vals, (slice-vals, (slice-vals, tt))))))))
+      (λ κs. (
+        slice-vals,
+        (vals-of the-guarded-machine, (slice-vals, (slice-vals, (slice-vals, (slice-vals, (slice-vals, (slice-vals, tt))))))),
+      ))
       (λ κs. (
         words-tell,
         (
           tells-of the-guarded-machine,
-          (buffer-tells, (buffer-tells, (buffer-tells, (buffer-tells, (buffer-tells, tt))))),
+          (buffer-tells, (buffer-tells, (buffer-tells, (buffer-tells, (buffer-tells, (buffer-tells, tt)))))),
         ),
       ))
       (λ κs qs bounds a _ are. walk (κs .0) (qs .0) (κs .1) (qs .1) (a .1 .0) (a .0) (a .1 .1 .0) (a .1 .1 .1 .0) (a .1 .1 .1 .1 .0)
-      (a .1 .1 .1 .1 .1 .0) (a .1 .1 .1 .1 .1 .1 .0) (𝓣 .C) (𝓣 .Λ) (fmOf 𝓤 H (W .laws) 𝓣) met (are .0 .0 .1 .0) (are .1 .1 .0 .0 .1 .0)
-      (are .1 .1 .1 .0 .0 .1 .0) (are .1 .1 .1 .1 .0 .0 .1 .0) (are .1 .1 .1 .1 .1 .0 .0 .1 .0) (are .1 .1 .1 .1 .1 .1 .0 .0 .1 .0)
+      (a .1 .1 .1 .1 .1 .0) (a .1 .1 .1 .1 .1 .1 .0) (a .1 .1 .1 .1 .1 .1 .1 .0) (𝓣 .C) (𝓣 .Λ) (fmOf 𝓤 H (W .laws) 𝓣) met
+      (are .0 .0 .1 .0) (are .1 .1 .0 .0 .1 .0) (are .1 .1 .1 .0 .0 .1 .0) (are .1 .1 .1 .1 .0 .0 .1 .0) (are .1 .1 .1 .1 .1 .0 .0 .1 .0)
+      (are .1 .1 .1 .1 .1 .1 .0 .0 .1 .0) (are .1 .1 .1 .1 .1 .1 .1 .0 .0 .1 .0)
       (the-guarded-machine .learns (a .1 .0) _ (are .1 .0) .1))
 
 pub lend-and-step-guarded-spec : {M : Type 1} → stated.statement M

@@ -66,10 +66,10 @@ module _ {M : Type 1} (𝓤 : URA M) (H : Heap 𝓤) (A : Atoms 𝓤) (W : Given
   Walk = walkOf 𝓤 H A self.ended (toldOf 𝓤 H A W self.ended (self.clauses 𝓤 H A at-mem run)) (self.clauses 𝓤 H A at-mem run)
 
   -- the record lies at b and o under the name γ
-  module _ (κw κ : Lft) (qw q : Share) (κs : Lfts 4) (qs : Shares 4) (b o : ℕ) (γ : GName) (h : Machine)
-      (words addresses numbers tape output : Slice) where
+  module _ (κw κ : Lft) (qw q : Share) (κs : Lfts 5) (qs : Shares 5) (b o : ℕ) (γ : GName) (h : Machine)
+      (words addresses numbers moments tape output : Slice) where
     abbrev slices : Slices
-    slices = (addresses, (numbers, (tape, (output, tt))))
+    slices = (addresses, (numbers, (moments, (tape, (output, tt)))))
 
     -- what the two contracts bind outside
     abbrev bound : Walk .Ghost
@@ -89,19 +89,20 @@ module _ {M : Type 1} (𝓤 : URA M) (H : Heap 𝓤) (A : Atoms 𝓤) (W : Given
 
     -- what the callee says of its result and of the buffers' last lists
     abbrev Said : Ran → Lasts callee.ended (κw, κs) (words, (h, slices)) → Type 0
-    Said r zs = called r (zs .1 .1 .0) (zs .1 .1 .1 .0) (zs .1 .1 .1 .1 .0) (zs .1 .1 .1 .1 .1 .0)
-        ≡ plainWords (now words) 1 (snapshot h (now addresses) (now numbers) (now tape) (now output))
+    Said r zs = called r (zs .1 .1 .0) (zs .1 .1 .1 .0) (zs .1 .1 .1 .1 .0) (zs .1 .1 .1 .1 .1 .0) (zs .1 .1 .1 .1 .1 .1 .0)
+        ≡ plainWords (now words) 1 (snapshot h (now addresses) (now numbers) (now moments) (now tape) (now output))
 
     module _ (C : Calls 𝓤 H) (Λ : Loops 𝓤 H) (fm : FmC 𝓤 H (W .laws) C) (met : Triple 𝓤 (C #callee) Callee)
         (words-fit : length (now words) < 2 ^ 64) (addresses-fit : length (now addresses) < 2 ^ 64)
-        (numbers-fit : length (now numbers) < 2 ^ 64) (tape-fits : length (now tape) < 2 ^ 64)
+        (numbers-fit : length (now numbers) < 2 ^ 64) (moments-fit : length (now moments) < 2 ^ 64) (tape-fits : length (now tape) < 2 ^ 64)
         (output-fits : length (now output) < 2 ^ 64) where
       walk : ent 𝓤 (onEntry 𝓤 H A self.signature (κw, (κ, κs)) (qw, (q, qs)) (bound .0 .3) (bound .0 .4))
           (WpFn 𝓤 H C Λ code.function (sliceVal (ptr words) (length (now words)) ∷ vptr b o
           ∷ sliceVal (ptr addresses) (length (now addresses)) ∷ sliceVal (ptr numbers) (length (now numbers))
-          ∷ sliceVal (ptr tape) (length (now tape)) ∷ sliceVal (ptr output) (length (now output)) ∷ []) (Walk .post bound))
+          ∷ sliceVal (ptr moments) (length (now moments)) ∷ sliceVal (ptr tape) (length (now tape))
+          ∷ sliceVal (ptr output) (length (now output)) ∷ []) (Walk .post bound))
       walk =
-          qed W ((‵ (flft κw qw) ⊛ (‵ (flft κ q) ⊛ raw (toks 𝓤 A 4 κs qs)))
+          qed W ((‵ (flft κw qw) ⊛ (‵ (flft κ q) ⊛ raw (toks 𝓤 A 5 κs qs)))
           ∷ ‵ (owns (typesAt (self.signature .params) (κw, (κ, κs))) (bound .0 .3) (bound .0 .4)) ∷ []) ∵
           split ! $ move ! (1 ∷ []) $ split ! $ move ! (3 ∷ []) $ fsplit ! $ move ! (1 ∷ []) $ fsplit ! $ fsplit3 ! $ drop ! $
           move ! (0 ∷ 1 ∷ 4 ∷ 3 ∷ 2 ∷ 6 ∷ []) $
@@ -109,65 +110,77 @@ module _ {M : Type 1} (𝓤 : URA M) (H : Heap 𝓤) (A : Atoms 𝓤) (W : Given
           enter ! C Λ code.function _ _ $
           alloc1 ! (λ l₀. alloc1 ! (λ l₁. alloc1 ! (λ l₂. alloc1 ! (λ l₃. alloc1 ! (λ l₄. alloc1 ! (λ l₅. alloc1 ! (λ l₆. alloc1 ! (λ l₇.
           alloc1 ! (λ l₈. alloc1 ! (λ l₉. alloc1 ! (λ l₁₀. alloc1 ! (λ l₁₁. alloc1 ! (λ l₁₂. alloc1 ! (λ l₁₃. alloc1 ! (λ l₁₄.
-          alloc1 ! (λ l₁₅. alloc1 ! (λ l₁₆. alloc1 ! (λ l₁₇. alloc0 ! $
-          params1 ! $ pass1 ! (init ! 32 refl (tt, (tt, (record { fits = words-fit }, tt)))) $ pass1 ! (init ! 30 refl (tt, tt)) $
-          pass1 ! (init ! 28 refl (tt, (tt, (record { fits = addresses-fit }, tt)))) $
-          pass1 ! (init ! 26 refl (tt, (tt, (record { fits = numbers-fit }, tt)))) $
-          pass1 ! (init ! 24 refl (tt, (tt, (record { fits = tape-fits }, tt)))) $
-          pass1 ! (init ! 22 refl (tt, (tt, (record { fits = output-fits }, tt)))) $ pass0 ! $
-          move ! (36 ∷ 37 ∷ 38 ∷ []) $ opens-record ! tt the-machine b o h (λ g.
-          -- [the record's cell; the open borrow; obs; auth; _17 at 4; …; _i at 4 + 2 (17 - i); …; what the words own, at 40; the buffers;
+          alloc1 ! (λ l₁₅. alloc1 ! (λ l₁₆. alloc1 ! (λ l₁₇. alloc1 ! (λ l₁₈. alloc1 ! (λ l₁₉. alloc1 ! (λ l₂₀. alloc0 ! $
+          params1 ! $ pass1 ! (init ! 38 refl (tt, (tt, (record { fits = words-fit }, tt)))) $ pass1 ! (init ! 36 refl (tt, tt)) $
+          pass1 ! (init ! 34 refl (tt, (tt, (record { fits = addresses-fit }, tt)))) $
+          pass1 ! (init ! 32 refl (tt, (tt, (record { fits = numbers-fit }, tt)))) $
+          pass1 ! (init ! 30 refl (tt, (tt, (record { fits = moments-fit }, tt)))) $
+          pass1 ! (init ! 28 refl (tt, (tt, (record { fits = tape-fits }, tt)))) $
+          pass1 ! (init ! 26 refl (tt, (tt, (record { fits = output-fits }, tt)))) $ pass0 ! $
+          move ! (42 ∷ 43 ∷ 44 ∷ []) $ opens-record ! tt the-machine b o h (λ g.
+          -- [the record's cell; the open borrow; obs; auth; _20 at 4; …; _i at 4 + 2 (20 - i); …; what the words own, at 46; the buffers;
           -- the words' token; the buffers' tokens]
-          assigns ! (of-opd ! (load ! (from ! (hop ! (look ! 34 refl) (stop !))) (look-raw ! 0 refl))) (from ! (stop !))
-          (init ! 20 refl (the-machine .typed 𝓤 H A W h g)) $
-          relends ! 32 18 16 refl refl refl refl refl refl refl refl addresses-fit $
-          relends ! 30 14 12 refl refl refl refl refl refl refl refl numbers-fit $
-          relends ! 28 10 8 refl refl refl refl refl refl refl refl tape-fits $
-          relends ! 26 6 4 refl refl refl refl refl refl refl refl output-fits $
+          assigns ! (of-opd ! (load ! (from ! (hop ! (look ! 40 refl) (stop !))) (look-raw ! 0 refl))) (from ! (stop !))
+          (init ! 24 refl (the-machine .typed 𝓤 H A W h g)) $
+          relends ! 38 22 20 refl refl refl refl refl refl refl refl addresses-fit $
+          relends ! 36 18 16 refl refl refl refl refl refl refl refl numbers-fit $
+          relends ! 34 14 12 refl refl refl refl refl refl refl refl moments-fit $
+          relends ! 32 10 8 refl refl refl refl refl refl refl refl tape-fits $
+          relends ! 30 6 4 refl refl refl refl refl refl refl refl output-fits $
           -- what the words, the record and the buffers own, and the tokens of words and buffers, go to the callee
-          owns-whole ! the-machine h g $ move ! (0 ∷ 42 ∷ []) $ fjoin ! $ move ! (41 ∷ 0 ∷ []) $ fjoin ! $ move ! (41 ∷ 42 ∷ []) $ join ! $
-          use1 W (raw (toks 𝓤 A 5 (κw, κs) (qw, qs))) (id⊢ 𝓤 _) $
+          owns-whole ! the-machine h g $ move ! (0 ∷ 48 ∷ []) $ fjoin ! $ move ! (47 ∷ 0 ∷ []) $ fjoin ! $ move ! (47 ∷ 48 ∷ []) $ join ! $
+          use1 W (raw (toks 𝓤 A 6 (κw, κs) (qw, qs))) (id⊢ 𝓤 _) $
           calls-told ! fm callee.ended (callee.clauses 𝓤 H A at-mem run) met bound-callee (id⊢ 𝓤 _)
-          (and-then ! (load ! (from ! (stop !)) (look ! 37 refl)) (and-then ! (load ! (from ! (stop !)) (look ! 21 refl))
-          (and-then ! (load ! (from ! (stop !)) (look ! 17 refl)) (and-then ! (load ! (from ! (stop !)) (look ! 13 refl))
-          (and-then ! (load ! (from ! (stop !)) (look ! 9 refl)) (and-then ! (load ! (from ! (stop !)) (look ! 5 refl))
-          (no-more !))))))) (λ v r zs.
+          (and-then ! (load ! (from ! (stop !)) (look ! 43 refl)) (and-then ! (load ! (from ! (stop !)) (look ! 25 refl))
+          (and-then ! (load ! (from ! (stop !)) (look ! 21 refl)) (and-then ! (load ! (from ! (stop !)) (look ! 17 refl))
+          (and-then ! (load ! (from ! (stop !)) (look ! 13 refl)) (and-then ! (load ! (from ! (stop !)) (look ! 9 refl))
+          (and-then ! (load ! (from ! (stop !)) (look ! 5 refl))
+          (no-more !)))))))) (λ v r zs.
           known ! the-ran r v (λ is f. move ! (2 ∷ []) $
           use1 W (raw (fact 𝓤 (Said r zs)) ⊛ raw (fact 𝓤 (r .extras ≡ noMarks))) (id⊢ 𝓤 _) $ split ! $ heard ! (Said r zs) (λ e. drop ! $
-          -- [the callee's tokens; what is said of the last lists; the record's cell; the open borrow; obs; auth; _17 at 6; …]
+          -- [the callee's tokens; what is said of the last lists; the record's cell; the open borrow; obs; auth; _20 at 6; …]
           land ! (from ! (stop !))
-          (init ! 26 refl (subst (λ (u : Val). Holds (hasTy R′.mir u) × WT u) (sym is) (the-ran .typed 𝓤 H A W r f))) $
-          rewrite ! 26 (λ (u : Val). ‵ (fat fullShare R′.mir l₇ 0 u)) (is ∙ ran-val r) refl $
-          assigns ! (of-opd ! (load ! (from ! (fld ! refl (stop !))) (look-in ! 26 (sub ! 2 refl (whole !)))))
-          (from ! (hop ! (look ! 36 refl) (stop !))) (store-raw ! 2 refl (the-machine .typed 𝓤 H A W (r .machine) (ran-machine-fits r f))) $
-          assigns ! (of-opd ! (load ! (from ! (fld ! refl (stop !))) (look-in ! 26 (sub ! 0 refl (whole !)))))
-          (from ! (stop !)) (init ! 24 refl (the-answer .typed 𝓤 H A W (r .answer) (ran-answer-fits r f))) $
-          assigns ! (agg ! (and-then ! (load ! (from ! (stop !)) (look ! 24 refl))
-          (and-then ! (load ! (from ! (fld ! refl (stop !))) (look-in ! 26 (sub ! 1 refl (whole !)))) (no-more !))))
-          (from ! (stop !)) (init ! 40 refl (subst (λ (u : Val). Holds (hasTy A′.mir u) × WT u) (answered-val (answered r))
+          (init ! 30 refl (subst (λ (u : Val). Holds (hasTy R′.mir u) × WT u) (sym is) (the-ran .typed 𝓤 H A W r f))) $
+          rewrite ! 30 (λ (u : Val). ‵ (fat fullShare R′.mir l₈ 0 u)) (is ∙ ran-val r) refl $
+          assigns ! (of-opd ! (load ! (from ! (fld ! refl (stop !))) (look-in ! 30 (sub ! 2 refl (whole !)))))
+          (from ! (hop ! (look ! 42 refl) (stop !))) (store-raw ! 2 refl (the-machine .typed 𝓤 H A W (r .machine) (ran-machine-fits r f))) $
+          assigns ! (of-opd ! (load ! (from ! (fld ! refl (stop !))) (look-in ! 30 (sub ! 0 refl (whole !)))))
+          (from ! (stop !)) (init ! 28 refl (the-answer .typed 𝓤 H A W (r .answer) (ran-answer-fits r f))) $
+          assigns ! (agg ! (and-then ! (load ! (from ! (stop !)) (look ! 28 refl))
+          (and-then ! (load ! (from ! (fld ! refl (stop !))) (look-in ! 30 (sub ! 1 refl (whole !)))) (no-more !))))
+          (from ! (stop !)) (init ! 46 refl (subst (λ (u : Val). Holds (hasTy A′.mir u) × WT u) (answered-val (answered r))
           (the-answered .typed 𝓤 H A W (answered r) (answered-fits r f)))) $
-          rewrite ! 40 (λ (u : Val). ‵ (fat fullShare A′.mir l₀ 0 u)) (sym (answered-val (answered r))) refl $
+          rewrite ! 46 (λ (u : Val). ‵ (fat fullShare A′.mir l₀ 0 u)) (sym (answered-val (answered r))) refl $
           move ! (2 ∷ 3 ∷ 4 ∷ 5 ∷ []) $ closes-record ! tt the-machine b o (r .machine) (ran-machine-fits r f) $
-          -- [what is said of the record; its token; the callee's tokens; what is said of the last lists; _17 at 4; …]
-          returns ! (look ! 38 refl) $ freed ! 38 refl refl $ freed ! 36 refl refl $ freed ! 34 refl refl $ freed ! 32 refl refl $
-          freed ! 30 refl refl $ freed ! 28 refl refl $ freed ! 26 refl refl $ freed ! 24 refl refl $ freed ! 22 refl refl $
-          freed ! 20 refl refl $ freed ! 18 refl refl $ freed ! 16 refl refl $ freed ! 14 refl refl $ freed ! 12 refl refl $
-          freed ! 10 refl refl $ freed ! 8 refl refl $ freed ! 6 refl refl $ freed ! 4 refl refl $ free0 ! $
+          -- [what is said of the record; its token; the callee's tokens; what is said of the last lists; _20 at 4; …]
+          returns ! (look ! 44 refl) $ freed ! 44 refl refl $ freed ! 42 refl refl $ freed ! 40 refl refl $ freed ! 38 refl refl $
+          freed ! 36 refl refl $ freed ! 34 refl refl $ freed ! 32 refl refl $ freed ! 30 refl refl $ freed ! 28 refl refl $
+          freed ! 26 refl refl $ freed ! 24 refl refl $ freed ! 22 refl refl $ freed ! 20 refl refl $ freed ! 18 refl refl $
+          freed ! 16 refl refl $ freed ! 14 refl refl $ freed ! 12 refl refl $ freed ! 10 refl refl $ freed ! 8 refl refl $
+          freed ! 6 refl refl $ freed ! 4 refl refl $ free0 ! $
           move ! (3 ∷ []) $ fsplit ! $ drop ! $ fsplit ! $ drop ! $ move ! (1 ∷ 0 ∷ []) $ fjoin ! $ nothing ! $ fjoin ! $ move ! (2 ∷ []) $
-          use1 W (‵ (flft κw qw) ⊛ raw (toks 𝓤 A 4 κs qs)) (id⊢ 𝓤 _) $ split ! $ move ! (3 ∷ 1 ∷ []) $ join ! $
+          use1 W (‵ (flft κw qw) ⊛ raw (toks 𝓤 A 5 κs qs)) (id⊢ 𝓤 _) $ split ! $ move ! (3 ∷ 1 ∷ []) $ join ! $
           move ! (1 ∷ 0 ∷ []) $ join ! $ owns-whole ! the-answered (answered r) (answered-fits r f) $ move ! (1 ∷ 2 ∷ 0 ∷ []) $
           by ! (ends-told 𝓤 H A W self.ended (self.clauses 𝓤 H A at-mem run) bound _ (answered r) (zs .0, (r .machine, zs .1 .1))
-          (factI 𝓤 _ _ e))))))))))))))))))))))))
+          (factI 𝓤 _ _ e)))))))))))))))))))))))))))
 
   meets : (𝓣 : Tables 𝓤 H) → Triple 𝓤 (𝓣 .C #callee) Callee
       → Meets 𝓤 H A self.signature (WpFn 𝓤 H (𝓣 .C) (𝓣 .Λ) code.function) (self.spec 𝓤 H A at-mem run)
   meets 𝓣 met = meets-told 𝓤 H A W self.ended (self.clauses 𝓤 H A at-mem run) 𝓣 code.function
-      (λ κs. (slice-vals, (ptr-vals, (slice-vals, (slice-vals, (slice-vals, (slice-vals, tt)))))))
-      (λ κs. (words-tell, (mut-tells (named 1) (κs .1 .0) the-row, (buffer-tells, (buffer-tells, (buffer-tells, (buffer-tells, tt)))))))
+      (λ κs. (slice-vals, (ptr-vals, (slice-vals, (slice-vals, (slice-vals, (slice-vals, (slice-vals, tt))))))))
+      (λ κs. (
+        words-tell,
+        (
+          mut-tells (named 1) (κs .1 .0) the-row,
+          (buffer-tells, (buffer-tells, (buffer-tells, (buffer-tells, (buffer-tells, tt))))),
+        ),
+      ))
       (λ κs qs bounds a _ are. walk (κs .0) (κs .1 .0) (qs .0) (qs .1 .0) (κs .1 .1) (qs .1 .1)
       (a .1 .0 .ptr .0) (a .1 .0 .ptr .1) (a .1 .0 .name) (a .1 .0 .now)
-      (a .0) (a .1 .1 .0) (a .1 .1 .1 .0) (a .1 .1 .1 .1 .0) (a .1 .1 .1 .1 .1 .0) (𝓣 .C) (𝓣 .Λ) (fmOf 𝓤 H (W .laws) 𝓣) met
-      (are .0 .0 .1 .0) (are .1 .1 .0 .0 .1 .0) (are .1 .1 .1 .0 .0 .1 .0) (are .1 .1 .1 .1 .0 .0 .1 .0) (are .1 .1 .1 .1 .1 .0 .0 .1 .0))
+      (a .0) (a .1 .1 .0) (a .1 .1 .1 .0) (a .1 .1 .1 .1 .0) (a .1 .1 .1 .1 .1 .0) (a .1 .1 .1 .1 .1 .1 .0)
+      (𝓣 .C) (𝓣 .Λ) (fmOf 𝓤 H (W .laws) 𝓣) met
+      (are .0 .0 .1 .0) (are .1 .1 .0 .0 .1 .0) (are .1 .1 .1 .0 .0 .1 .0) (are .1 .1 .1 .1 .0 .0 .1 .0) (are .1 .1 .1 .1 .1 .0 .0 .1 .0)
+      (are .1 .1 .1 .1 .1 .1 .0 .0 .1 .0))
 
 pub step-spec : {M : Type 1} → stated.statement M
 unfolding code.routine tablesOf

@@ -14,8 +14,8 @@ enum-told c = search needs
 
 enter-requires : tie.Need-enter-requires
 enter-requires c κs =
-    let l = subst (Loads _ _) (c .before .before .before .before .before .before .before .enum-told .given .1) (c .before .before .before .before .before .before .before .before .before .before .before .load-words .ensures) in
-    let s = c .before .before .before .before .before .before .before .before .before .before .before .before .before .before .before .before .before .before .before .before .before in
+    let l = subst (Loads _ _) (c .before .before .before .before .before .before .before .before .enum-told .given .1) (c .before .before .before .before .before .before .before .before .before .before .before .before .load-words .ensures) in
+    let s = c .before .before .before .before .before .before .before .before .before .before .before .before .before .before .before .before .before .before .before .before .before .before .before in
     (record { loads = l .0; table = l .2 }, (s .pre .1 .0 (l .2 .words), s .pre .1 .1))
 
 enum-known-refusal : tie.Need-enum-known-refusal
@@ -45,17 +45,20 @@ same-length-6 c = search needs
 same-length-7 : tie.Need-same-length-7
 same-length-7 c = search needs
 
-returns : tie.Need-returns
-returns c =
-    let l = subst (Loads _ _) (c .before .before .before .before .before .before .before .before .before .before .before .before .before .before .before .before .before .before .before .before .enum-told .given .1) (c .before .before .before .before .before .before .before .before .before .before .before .before .before .before .before .before .before .before .before .before .before .before .before .before .load-words .ensures) in
-    rw (l .0) (c .before .before .before .before .before .before .before .before .before .before .before .before .enter .ensures)
-
 same-length-8 : tie.Need-same-length-8
 same-length-8 c = search needs
 
+returns : tie.Need-returns
+returns c =
+    let l = subst (Loads _ _) (c .before .before .before .before .before .before .before .before .before .before .before .before .before .before .before .before .before .before .before .before .before .before .before .enum-told .given .1) (c .before .before .before .before .before .before .before .before .before .before .before .before .before .before .before .before .before .before .before .before .before .before .before .before .before .before .before .load-words .ensures) in
+    rw (l .0) (c .before .before .before .before .before .before .before .before .before .before .before .before .before .before .enter .ensures)
+
+same-length-9 : tie.Need-same-length-9
+same-length-9 c = search needs
+
 returns-2 : tie.Need-returns-2
 returns-2 c =
-    load-refused _ _ _ _ _ _ (subst (Loads _ _) (c .before .before .refusal .given .1) (c .before .before .before .before .before .before .load-words .ensures)) (refused-is _ _ _ _ _ _ _ _ _ (c .refuse .ensures))
+    load-refused _ _ _ _ _ _ (subst (Loads _ _) (c .before .before .refusal .given .1) (c .before .before .before .before .before .before .load-words .ensures)) (refused-is _ _ _ _ _ _ _ _ _ _ (c .refuse .ensures))
 
 pub load-and-enter-spec : {M : Type 1} → statement M
 load-and-enter-spec =
@@ -73,6 +76,7 @@ load-and-enter-spec =
     same-length-5
     same-length-6
     same-length-7
-    returns
     same-length-8
+    returns
+    same-length-9
     returns-2)

@@ -16,9 +16,10 @@ check-budget-text-requires c κs = search needs
 
 returns : tie.Need-returns
 returns c =
-    let a = c .before .before .before .before .before .before .before .before .args in
-    checks-guarded (jobProgram (loadBudgetText (a .text .now))) 0 (λ (m : Marks). guardedSnapshot (a .machine) m (a .addresses .now) (a .numbers .now) (a .marks .now) (a .tape .now) (a .output .now))
+    let a = c .before .before .before .before .before .before .before .before .before .args in
+    checks-guarded (jobProgram (loadBudgetText (a .text .now))) 0 (λ (m : Marks). guardedSnapshot (a .machine) m (a .addresses .now) (a .numbers .now) (a .moments .now) (a .marks .now) (a .tape .now) (a .output .now))
     (c .before .mode .ensures) (c .check-budget-text .ensures)
 
 pub check-budget-text-spec : {M : Type 1} → statement M
-check-budget-text-spec = tie.close (tie.spec mode-requires check-budget-text-requires returns)
+check-budget-text-spec =
+    tie.close (tie.spec mode-requires check-budget-text-requires returns)

@@ -17,9 +17,10 @@ check-text-requires c κs = search needs
 returns : tie.Need-returns
 unfolding guardedText
 returns c =
-    let a = c .before .before .before .before .before .before .before .before .args in
-    checks-guarded (loadText (a .text .now)) 0 (λ (m : Marks). guardedSnapshot (a .machine) m (a .addresses .now) (a .numbers .now) (a .marks .now) (a .tape .now) (a .output .now))
+    let a = c .before .before .before .before .before .before .before .before .before .args in
+    checks-guarded (loadText (a .text .now)) 0 (λ (m : Marks). guardedSnapshot (a .machine) m (a .addresses .now) (a .numbers .now) (a .moments .now) (a .marks .now) (a .tape .now) (a .output .now))
     (c .before .mode .ensures) (c .check-text .ensures)
 
 pub check-text-spec : {M : Type 1} → statement M
-check-text-spec = tie.close (tie.spec mode-requires check-text-requires returns)
+check-text-spec =
+    tie.close (tie.spec mode-requires check-text-requires returns)

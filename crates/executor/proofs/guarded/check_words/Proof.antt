@@ -17,9 +17,10 @@ check-words-requires c κs = search needs
 returns : tie.Need-returns
 unfolding guardedWords
 returns c =
-    let a = c .before .before .before .before .before .before .before .before .args in
-    checks-guarded (loadWords (a .words .now)) 0 (λ (m : Marks). guardedSnapshot (a .machine) m (a .addresses .now) (a .numbers .now) (a .marks .now) (a .tape .now) (a .output .now))
+    let a = c .before .before .before .before .before .before .before .before .before .args in
+    checks-guarded (loadWords (a .words .now)) 0 (λ (m : Marks). guardedSnapshot (a .machine) m (a .addresses .now) (a .numbers .now) (a .moments .now) (a .marks .now) (a .tape .now) (a .output .now))
     (c .before .mode .ensures) (c .check-words .ensures)
 
 pub check-words-spec : {M : Type 1} → statement M
-check-words-spec = tie.close (tie.spec mode-requires check-words-requires returns)
+check-words-spec =
+    tie.close (tie.spec mode-requires check-words-requires returns)

@@ -21,7 +21,7 @@ slice-aggregate-run-budget-text : tie.Need-slice-aggregate-run-budget-text
 slice-aggregate-run-budget-text c = search needs
 
 run-budget-text-requires : tie.Need-run-budget-text-requires
-run-budget-text-requires c κs = λ _. (refl, ap (λ (m : Mode). m .extras .registers) (c .before .before .before .before .before .mode .ensures))
+run-budget-text-requires c κs = λ _. (refl, ap (λ (m : Mode). m .extras .registers) (c .before .before .before .before .before .before .mode .ensures))
 
 same-length : tie.Need-same-length
 same-length c = search needs
@@ -35,12 +35,27 @@ same-length-3 c = search needs
 same-length-4 : tie.Need-same-length-4
 same-length-4 c = search needs
 
+same-length-5 : tie.Need-same-length-5
+same-length-5 c = search needs
+
 returns : tie.Need-returns
 unfolding plainBudgetText
 returns c =
-    let a = c .before .before .before .before .before .before .before .before .before .before .before .before .before .before .before .before .before .before .before .before .before .args in
-    as-plain (jobProgram (loadBudgetText (a .text .now))) (jobBudget (loadBudgetText (a .text .now))) (λ (m : Marks). guardedSnapshot (a .machine) m (a .addresses .now) (a .numbers .now) [] (a .tape .now) (a .output .now))
-    (c .before .before .before .before .before .before .before .before .before .before .before .before .before .before .before .mode .ensures) (c .before .before .before .before .before .before .before .before .before .run-budget-text .result) (c .before .before .before .before .before .before .before .before .before .run-budget-text .ensures)
+    let a = c .before .before .before .before .before .before .before .before .before .before .before .before .before .before .before .before .before .before .before .before .before .before .before .before .before .args in
+    as-plain (jobProgram (loadBudgetText (a .text .now))) (jobBudget (loadBudgetText (a .text .now))) (λ (m : Marks). guardedSnapshot (a .machine) m (a .addresses .now) (a .numbers .now) (a .moments .now) [] (a .tape .now) (a .output .now))
+    (c .before .before .before .before .before .before .before .before .before .before .before .before .before .before .before .before .before .before .mode .ensures) (c .before .before .before .before .before .before .before .before .before .before .before .run-budget-text .result) (c .before .before .before .before .before .before .before .before .before .before .before .run-budget-text .ensures)
 
 pub run-budget-text-spec : {M : Type 1} → statement M
-run-budget-text-spec = tie.close (tie.spec mode-requires array-borrow-prefix-none slice-aggregate-run-budget-text run-budget-text-requires same-length same-length-2 same-length-3 same-length-4 returns)
+run-budget-text-spec =
+    tie.close
+    (tie.spec
+    mode-requires
+    array-borrow-prefix-none
+    slice-aggregate-run-budget-text
+    run-budget-text-requires
+    same-length
+    same-length-2
+    same-length-3
+    same-length-4
+    same-length-5
+    returns)

@@ -21,7 +21,7 @@ slice-aggregate-run-text : tie.Need-slice-aggregate-run-text
 slice-aggregate-run-text c = search needs
 
 run-text-requires : tie.Need-run-text-requires
-run-text-requires c κs = λ _. (refl, ap (λ (m : Mode). m .extras .registers) (c .before .before .before .before .before .mode .ensures))
+run-text-requires c κs = λ _. (refl, ap (λ (m : Mode). m .extras .registers) (c .before .before .before .before .before .before .mode .ensures))
 
 same-length : tie.Need-same-length
 same-length c = search needs
@@ -35,12 +35,27 @@ same-length-3 c = search needs
 same-length-4 : tie.Need-same-length-4
 same-length-4 c = search needs
 
+same-length-5 : tie.Need-same-length-5
+same-length-5 c = search needs
+
 returns : tie.Need-returns
 unfolding plainText
 returns c =
-    let a = c .before .before .before .before .before .before .before .before .before .before .before .before .before .before .before .before .before .before .before .before .before .args in
-    as-plain (loadText (a .text .now)) (a .budget) (λ (m : Marks). guardedSnapshot (a .machine) m (a .addresses .now) (a .numbers .now) [] (a .tape .now) (a .output .now))
-    (c .before .before .before .before .before .before .before .before .before .before .before .before .before .before .before .mode .ensures) (c .before .before .before .before .before .before .before .before .before .run-text .result) (c .before .before .before .before .before .before .before .before .before .run-text .ensures)
+    let a = c .before .before .before .before .before .before .before .before .before .before .before .before .before .before .before .before .before .before .before .before .before .before .before .before .before .args in
+    as-plain (loadText (a .text .now)) (a .budget) (λ (m : Marks). guardedSnapshot (a .machine) m (a .addresses .now) (a .numbers .now) (a .moments .now) [] (a .tape .now) (a .output .now))
+    (c .before .before .before .before .before .before .before .before .before .before .before .before .before .before .before .before .before .before .mode .ensures) (c .before .before .before .before .before .before .before .before .before .before .before .run-text .result) (c .before .before .before .before .before .before .before .before .before .before .before .run-text .ensures)
 
 pub run-text-spec : {M : Type 1} → statement M
-run-text-spec = tie.close (tie.spec mode-requires array-borrow-prefix-none slice-aggregate-run-text run-text-requires same-length same-length-2 same-length-3 same-length-4 returns)
+run-text-spec =
+    tie.close
+    (tie.spec
+    mode-requires
+    array-borrow-prefix-none
+    slice-aggregate-run-text
+    run-text-requires
+    same-length
+    same-length-2
+    same-length-3
+    same-length-4
+    same-length-5
+    returns)

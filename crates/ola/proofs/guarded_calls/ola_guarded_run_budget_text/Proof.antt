@@ -39,12 +39,15 @@ same-length-4 c = search needs
 same-length-5 : tie.Need-same-length-5
 same-length-5 c = search needs
 
+same-length-6 : tie.Need-same-length-6
+same-length-6 c = search needs
+
 returns : tie.Need-returns
 returns c =
-    let made = c .before .before .before .before .before .before .before .before .before .before .before .before .before .before .before in
+    let made = c .before .before .before .before .before .before .before .before .before .before .before .before .before .before .before .before .before in
     guarded-left _ (guardedBudgetText _)
-    (made .before .before .before .before .before .before .before .before .machine-of .ensures)
-    (made .before .before .before .before .before .before .marks-of .ensures)
+    (made .before .before .before .before .before .before .before .before .before .machine-of .ensures)
+    (made .before .before .before .before .before .before .before .marks-of .ensures)
     (made .run-budget-text .ensures) (c .before .before .before .answer-record .ensures) (c .before .before .machine-record .ensures)
     (c .marks-record .ensures)
 
@@ -63,4 +66,5 @@ ola-guarded-run-budget-text-spec =
     same-length-3
     same-length-4
     same-length-5
+    same-length-6
     returns)

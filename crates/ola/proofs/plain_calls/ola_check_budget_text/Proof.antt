@@ -24,4 +24,8 @@ returns c =
 pub ola-check-budget-text-spec : {M : Type 1} → statement M
 ola-check-budget-text-spec =
     tie.close
-    (tie.spec machine-of-requires check-budget-text-requires answer-record-requires returns)
+    (tie.spec
+    machine-of-requires
+    check-budget-text-requires
+    answer-record-requires
+    returns)

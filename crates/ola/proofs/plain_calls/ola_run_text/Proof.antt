@@ -30,11 +30,14 @@ same-length-3 c = search needs
 same-length-4 : tie.Need-same-length-4
 same-length-4 c = search needs
 
+same-length-5 : tie.Need-same-length-5
+same-length-5 c = search needs
+
 returns : tie.Need-returns
 returns c =
-    let made = c .before .before .before .before .before .before .before .before .before .before .before in
+    let made = c .before .before .before .before .before .before .before .before .before .before .before .before .before in
     plain-left (made .run-text .result) (plainText _ _)
-    (made .before .before .before .before .before .machine-of .ensures)
+    (made .before .before .before .before .before .before .machine-of .ensures)
     (made .run-text .ensures .0) (c .before .answer-record .ensures) (c .machine-record .ensures)
 
 pub ola-run-text-spec : {M : Type 1} → statement M
@@ -49,4 +52,5 @@ ola-run-text-spec =
     same-length-2
     same-length-3
     same-length-4
+    same-length-5
     returns)

@@ -29,11 +29,14 @@ same-length-3 c = search needs
 same-length-4 : tie.Need-same-length-4
 same-length-4 c = search needs
 
+same-length-5 : tie.Need-same-length-5
+same-length-5 c = search needs
+
 returns : tie.Need-returns
 returns c =
-    let made = c .before .before .before .before .before .before .before .before .before .before .before in
+    let made = c .before .before .before .before .before .before .before .before .before .before .before .before .before in
     plain-left (made .lend-and-step .result) (plainWords _ 1)
-    (made .before .before .before .before .before .machine-of .ensures)
+    (made .before .before .before .before .before .before .machine-of .ensures)
     (made .lend-and-step .ensures .0) (c .before .answer-record .ensures) (c .machine-record .ensures)
 
 pub ola-step-words-spec : {M : Type 1} → statement M
@@ -48,4 +51,5 @@ ola-step-words-spec =
     same-length-2
     same-length-3
     same-length-4
+    same-length-5
     returns)

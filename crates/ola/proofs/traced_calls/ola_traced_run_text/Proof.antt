@@ -33,11 +33,14 @@ same-length-4 c = search needs
 same-length-5 : tie.Need-same-length-5
 same-length-5 c = search needs
 
+same-length-6 : tie.Need-same-length-6
+same-length-6 c = search needs
+
 returns : tie.Need-returns
 returns c =
-    let made = c .before .before .before .before .before .before .before .before .before .before .before .before .before in
+    let made = c .before .before .before .before .before .before .before .before .before .before .before .before .before .before .before in
     traced-left (made .run-text .result) (tracedText _ _)
-    (made .before .before .before .before .before .before .machine-of .ensures)
+    (made .before .before .before .before .before .before .before .machine-of .ensures)
     (made .run-text .ensures .0) (c .before .answer-record .ensures) (c .machine-record .ensures)
 
 pub ola-traced-run-text-spec : {M : Type 1} → statement M
@@ -53,4 +56,5 @@ ola-traced-run-text-spec =
     same-length-3
     same-length-4
     same-length-5
+    same-length-6
     returns)
