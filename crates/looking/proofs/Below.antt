@@ -13,9 +13,10 @@ use Rattle.hardware.specs.Buffers.{foundOf, cellsOf, Rising}
 use Rattle.hardware.proofs.BufferLaws.{get-found, get-absent}
 use Rattle.sheets.specs.Traced.{isRefused}
 
-module _ (n : ℕ) (xs : List ℕ) (o : Rising n xs) (r : ℕ) (ns : List ℕ) (level : length ns ≡ length xs) where
+module _ (n : ℕ) (xs : List ℕ) (o : Rising n xs) (r : ℕ) (ns ms : List ℕ)
+    (level : length ns ≡ length xs) (momentLevel : length ms ≡ length xs) where
   abbrev isAbsent : Bool
-  isAbsent = isRefused (readBelow numberCells (cellsOf n xs ns) r 2)
+  isAbsent = isRefused (readBelow numberCells (cellsOf n xs ns ms) r 2)
 
   pub too-low : r < 2 → true ≡ isAbsent
   unfolding require
@@ -23,8 +24,8 @@ module _ (n : ℕ) (xs : List ℕ) (o : Rising n xs) (r : ℕ) (ns : List ℕ) (
 
   pub cell-present : (i : ℕ) → 2 ≤ r → foundOf (take n xs) (r - 2) ≡ Found.At i → false ≡ isAbsent
   unfolding require
-  cell-present i h f = rw (le-leb 2 r h, get-found n xs ns o level (r - 2) i f)
+  cell-present i h f = rw (le-leb 2 r h, get-found n xs ns ms o level momentLevel (r - 2) i f)
 
   pub cell-absent : (i : ℕ) → 2 ≤ r → foundOf (take n xs) (r - 2) ≡ Found.Absent i → true ≡ isAbsent
   unfolding require
-  cell-absent i h f = rw (le-leb 2 r h, get-absent n xs ns o level (r - 2) i f)
+  cell-absent i h f = rw (le-leb 2 r h, get-absent n xs ns ms o level momentLevel (r - 2) i f)

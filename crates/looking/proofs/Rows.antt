@@ -26,12 +26,12 @@ same-opcode h = cc
 
 module _ (rows : List ℕ) (row : Row) (r9 count : ℕ) (addresses values : List ℕ) where
   pub none-seen : fetchedOf (getD rows (row .at) 0) ≡ NoInstruction → Seen rows row r9 count addresses values noSight
-  none-seen e = record { none = λ h. refl; some = λ k h ns level. absurd (none-some (sym e ∙ h)) }
+  none-seen e = record { none = λ h. refl; some = λ k h ns ms level momentLevel. absurd (none-some (sym e ∙ h)) }
 
   module _ (k : OlaOpcode) (unread : Bool) (present : Present) (s0 s1 dst : ℕ) where
     pub some-seen : fetchedOf (getD rows (row .at) 0) ≡ Found k
-        → ((ns : List ℕ) → length ns ≡ length addresses
-        → unread ≡ (readsFurther (classOf k) && isRefused (readBelow numberCells (cellsOf count addresses ns) r9 2)))
+        → ((ns ms : List ℕ) → length ns ≡ length addresses → length ms ≡ length addresses
+        → unread ≡ (readsFurther (classOf k) && isRefused (readBelow numberCells (cellsOf count addresses ns ms) r9 2)))
         → present ≡ presentOf (classOf k)
         → s0 ≡ getD rows (row .at + 2) 0
         → s1 ≡ getD rows (row .at + 3) 0
@@ -41,12 +41,18 @@ module _ (rows : List ℕ) (row : Row) (r9 count : ℕ) (addresses values : List
     some-seen e u p h0 h1 hd =
         record {
           none = λ h. absurd (none-some (sym h ∙ e));
-          some = λ j h ns level.
+          some = λ j h ns ms level momentLevel.
               subst
               (λ (j : OlaOpcode).
               record { unread = unread; present = present; op0 = getD values s0 0; op1 = getD values s1 0; dst = dst }
-              ≡ sightOf j (isRefused (readBelow numberCells (cellsOf count addresses ns) r9 2))
+              ≡ sightOf j (isRefused (readBelow numberCells (cellsOf count addresses ns ms) r9 2))
               (getD values (getD rows (row .at + 2) 0) 0) (getD values (getD rows (row .at + 3) 0) 0) (getD rows (row .at + 4) 0))
               (same-opcode (sym e ∙ h))
-              (λ i. record { unread = u ns level i; present = p i; op0 = getD values (h0 i) 0; op1 = getD values (h1 i) 0; dst = hd i });
+              (λ i. record {
+                unread = u ns ms level momentLevel i;
+                present = p i;
+                op0 = getD values (h0 i) 0;
+                op1 = getD values (h1 i) 0;
+                dst = hd i;
+              });
         }

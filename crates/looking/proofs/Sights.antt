@@ -148,9 +148,9 @@ module _ (e : Environment) (s : State numberCells) {i : Instruction} (h : instru
   line-here false f n q = absurd (uncovered-unseen e s h f .stops n q)
 
 -- From a snapshot
-module _ {ws rows : List ℕ} (t : TableOf ws rows) (m : Machine) (xs ns tape output : List ℕ) where
+module _ {ws rows : List ℕ} (t : TableOf ws rows) (m : Machine) (xs ns ms tape output : List ℕ) where
   abbrev from : Snapshot
-  from = snapshot m xs ns tape output
+  from = snapshot m xs ns ms tape output
 
   abbrev e : Environment
   e = environment (programOf ws) from
@@ -178,7 +178,8 @@ module _ {ws rows : List ℕ} (t : TableOf ws rows) (m : Machine) (xs ns tape ou
         → Looks (programOf ws) from noSight
     refused-looks p f q = unseen (refused-at (instructionAt (programOf ws) (m .pc)) refl p f q)
 
-    module _ (level : length ns ≡ length xs) {values′ : List ℕ} (p : Prepares ws rows row values Ready values′) {r : Sight}
+    module _ (level : length ns ≡ length xs) (momentLevel : length ms ≡ length xs) {values′ : List ℕ}
+        (p : Prepares ws rows row values Ready values′) {r : Sight}
         (v : Seen rows row (getD (m .registers) 9 0) (m .«cell_count») xs values′ r) where
       seen-at : (x : Result Instruction) → instructionAt (programOf ws) (m .pc) ≡ x → Says ws rows (m .pc) x → Looks (programOf ws) from r
       seen-at (refuse g) h (n, z) =
@@ -190,7 +191,7 @@ module _ {ws rows : List ℕ} (t : TableOf ws rows) (m : Machine) (xs ns tape ou
           let sDst = rowNumber rows (m .pc) 4 in
           let q = p .leaves (m .psp) (m .pc) i (at .at) st h in
           let k = p .registers ∙ kept in
-          let sees = v .some (i .opcode) (ap fetchedOf (at .first) ∙ d .opcode) ns level in
+          let sees = v .some (i .opcode) (ap fetchedOf (at .first) ∙ d .opcode) ns ms level momentLevel in
           subst (Looks (programOf ws) from)
           (sym (rw (at .number 2, at .number 3, at .number 4) at sees))
           (record {

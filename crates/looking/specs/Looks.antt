@@ -43,8 +43,8 @@ sightOf k absent op0 op1 dst =
 -- of a row, whose operands stand at their slots
 pub record Seen (rows : List ℕ) (row : Row) (r9 count : ℕ) (addresses values : List ℕ) (r : Sight) : Type 0 where
   pub none : fetchedOf (getD rows (row .at) 0) ≡ NoInstruction → r ≡ noSight
-  pub some : (k : OlaOpcode) → fetchedOf (getD rows (row .at) 0) ≡ Found k → (ns : List ℕ) → length ns ≡ length addresses
-      → r ≡ sightOf k (isRefused (readBelow numberCells (cellsOf count addresses ns) r9 2))
+  pub some : (k : OlaOpcode) → fetchedOf (getD rows (row .at) 0) ≡ Found k → (ns ms : List ℕ) → length ns ≡ length addresses
+      → length ms ≡ length addresses → r ≡ sightOf k (isRefused (readBelow numberCells (cellsOf count addresses ns ms) r9 2))
       (getD values (getD rows (row .at + 2) 0) 0) (getD values (getD rows (row .at + 3) 0) 0) (getD rows (row .at + 4) 0)
 
 -- of the step from a snapshot: whether CALL's further read fails, and, where the step is accepted, its line

@@ -53,8 +53,8 @@ fn reads_further(opcode: OlaOpcode) -> bool
 // Is the cell at R9 - 2 absent?
 fn is_absent_below(r9: u64, count: usize, addresses: &[u64]) -> bool
     requires { ⌜ Rising count (now addresses) ⌝ }
-    ensures { λ r. ⌜ ((ns : List ℕ) → length ns ≡ length (now (addresses .entry))
-        → r ≡ isRefused (readBelow numberCells (cellsOf count (now (addresses .entry)) ns) r9 2)) ⌝ }
+    ensures { λ r. ⌜ ((ns ms : List ℕ) → length ns ≡ length (now (addresses .entry)) → length ms ≡ length (now (addresses .entry))
+        → r ≡ isRefused (readBelow numberCells (cellsOf count (now (addresses .entry)) ns ms) r9 2)) ⌝ }
 {
     if r9 < 2 {
         return true;
@@ -155,8 +155,9 @@ pub fn look(
     requires { ⌜ Loaded (now words) (now rows) ⌝ }
     requires { ⌜ wordSlot + length (now words) ≤ length (now values) ⌝ }
     requires { ⌜ Rising (machine .«cell_count») (now addresses) ⌝ }
-    ensures { λ r. ⌜ ((ns tape output : List ℕ) → length ns ≡ length (now (addresses .entry))
-        → Looks (programOf (now (words .entry))) (snapshot machine (now (addresses .entry)) ns tape output) r) ⌝ }
+    ensures { λ r. ⌜ ((ns ms tape output : List ℕ) → length ns ≡ length (now (addresses .entry))
+        → length ms ≡ length (now (addresses .entry))
+        → Looks (programOf (now (words .entry))) (snapshot machine (now (addresses .entry)) ns ms tape output) r) ⌝ }
     ensures { λ _. ⌜ length (now (values .exit)) ≡ length (now (values .entry)) ⌝ }
 {
     let Place::At(row) = table::row_at(rows, machine.pc) else {

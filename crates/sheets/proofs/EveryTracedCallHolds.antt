@@ -38,7 +38,7 @@ use Rattle.sheets.proofs.TracedCallEnds.{TracedPlainly, traced-entered}
 traced-kept : (t : TracedSnapshot) → TracedKept t t
 traced-kept t =
     record {
-      plain = record { psp = refl; storage = refl; addresses = refl; numbers = refl; tape = refl; output = refl };
+      plain = record { psp = refl; storage = refl; addresses = refl; numbers = refl; moments = refl; tape = refl; output = refl };
       sheet = refl;
     }
 

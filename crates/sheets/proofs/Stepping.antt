@@ -4,6 +4,7 @@ use mathlib.Core.Path.{_≡_, refl}
 use mathlib.Core.List.{List}
 use lib.ListN.{length}
 use Rattle.rules.specs.declared.Instruction.{Instruction}
+use Rattle.rules.specs.declared.Held.{Held}
 use Rattle.rules.specs.Results.{Result, refuse, pass, bind}
 use Rattle.rules.specs.Memory.{Memory}
 use Rattle.rules.specs.Opcodes.{classOf}
@@ -13,7 +14,7 @@ use Rattle.sheets.specs.Lines.{isShort}
 use Rattle.sheets.specs.Traced.{TracedResult, passes, after, unreadWhere, shortWhere, isUnread, lineOf, TracedState, TracedNext, tracedStep}
 use Rattle.sheets.specs.StepBeside.{testOf, wordsOf, besidePlain, StepBeside}
 
-module _ (numberMemory : Memory ℕ) (e : Environment) (sheet : ℕ) (q : TracedState numberMemory) where
+module _ (numberMemory : Memory Held) (e : Environment) (sheet : ℕ) (q : TracedState numberMemory) where
   abbrev s : State numberMemory
   s = q .plain
 
@@ -56,5 +57,5 @@ module _ (numberMemory : Memory ℕ) (e : Environment) (sheet : ℕ) (q : Traced
   unfolding tracedStep step
   traced-beside = on-fetch (fetch (e .program) (s .pc))
 
-pub step-beside : (numberMemory : Memory ℕ) → StepBeside numberMemory
+pub step-beside : (numberMemory : Memory Held) → StepBeside numberMemory
 step-beside numberMemory = record { step = traced-beside numberMemory }

@@ -266,7 +266,7 @@ module _ (program : List Instruction) (t : TracedSnapshot) (ten : length (t .pla
       let h = resumable program (t .plain) (tracedRunOf program n t .state .plain) enters
       (ends-sound n (run-ends e bytes n (tracedStateOf t))) in
       record {
-        plain = record { psp = refl; storage = refl; addresses = h .addresses; numbers = h .numbers; tape = h .tape; output = h .output };
+        plain = record { psp = refl; storage = refl; addresses = h .addresses; numbers = h .numbers; moments = h .moments; tape = h .tape; output = h .output };
         sheet = subst (λ (c : Called TracedSnapshot). length (c .left .sheet) ≡ length (t .sheet)) (traced-passes program t ten enters n)
             (call-sheet (pass program) n t ten .long);
       }

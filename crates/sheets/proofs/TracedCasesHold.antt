@@ -5,7 +5,7 @@ use Rattle.rules.proofs.Cases.Unfolding.{calling}
 use Rattle.sheets.specs.Lines.{presentOf, lineWords, lineText, linesText, lineBytes}
 use Rattle.sheets.specs.Traced.{after, unreadWhere, shortWhere, readsFurther, tracedStep, tracedRun}
 use Rattle.sheets.specs.TracedCalls.{tracedCall, tracedWords}
-use Rattle.sheets.specs.TracedCases.{wordsIn, opcodeLines, OpcodeLinesHold, secondLine, SecondLineHolds, shortSheets, ShortSheetsHold, leftBy19, LeftBy19Holds, furtherReads, FurtherReadsHold, LineTextHolds}
+use Rattle.sheets.specs.TracedCases.{wordsIn, opcodeLines, OpcodeLinesHold, secondLine, SecondLineHolds, shortSheets, ShortSheetsHold, leftBy19, LeftBy19Holds, furtherReads, FurtherReadsHold, keptMoments, KeptMomentsHold, LineTextHolds}
 
 -- what a traced call that is written out unfolds
 unfoldable tracing : Unit {0}
@@ -32,6 +32,10 @@ leftBy19Holds = refl
 pub furtherReadsHold : FurtherReadsHold
 unfolding tracing wordsIn furtherReads
 furtherReadsHold = refl
+
+pub keptMomentsHold : KeptMomentsHold
+unfolding tracing wordsIn keptMoments
+keptMomentsHold = refl
 
 pub lineTextHolds : LineTextHolds
 unfolding tracing

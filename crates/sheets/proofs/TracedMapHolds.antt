@@ -6,6 +6,7 @@ use mathlib.Core.List.{List, [], _∷_, _++_}
 use lib.Dec.{leb}
 use lib.ListN.{length, getD}
 use Rattle.rules.specs.declared.Instruction.{Instruction}
+use Rattle.rules.specs.declared.Held.{Held}
 use Rattle.rules.specs.declared.Refusal.{Refusal}
 use Rattle.rules.specs.declared.Refusal.the-variants.{BadState, CellAbsent}
 use Rattle.rules.specs.Numbers.{choose}
@@ -41,7 +42,7 @@ data BothOnMap : TracedResult (TracedNext numberCells) → TracedResult (TracedN
   passed-both : {n : TracedNext numberCells} {m : TracedNext numberMap} → SameNext (n .next) (m .next) → n .line ≡ m .line
       → BothOnMap (passes n) (passes m)
 
-module _ (e : Environment) (s : State numberCells) (m : PlainMap ℕ) (h : SameMemory (s .cells) m) where
+module _ (e : Environment) (s : State numberCells) (m : PlainMap Held) (h : SameMemory (s .cells) m) where
   same-meets : meetsUnread numberCells e s ≡ meetsUnread numberMap e (withMap s m)
   same-meets =
       λ j.

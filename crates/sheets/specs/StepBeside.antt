@@ -4,6 +4,7 @@ use mathlib.Core.Path.{_≡_}
 use mathlib.Core.Bool.{Bool, false}
 use mathlib.Core.List.{List, []}
 use lib.ListN.{length}
+use Rattle.rules.specs.declared.Held.{Held}
 use Rattle.rules.specs.Results.{Result, refuse, pass}
 use Rattle.rules.specs.Memory.{Memory}
 use Rattle.rules.specs.Opcodes.{classOf}
@@ -21,7 +22,7 @@ abbrev pub wordsOf : {A : Type 0} → Result A → (A → List ℕ) → List ℕ
 wordsOf (refuse f) k = []
 wordsOf (pass a) k = k a
 
-module _ (numberMemory : Memory ℕ) where
+module _ (numberMemory : Memory Held) where
   -- the step is a CALL, its operands pass, and its further read finds nothing
   abbrev pub meetsUnread : Environment → State numberMemory → Bool
   meetsUnread e s =

@@ -1,9 +1,10 @@
--- The traced step and run, over the plain machine's stages. Document 02, #102.
+-- The traced step and run, over the plain machine's stages. Document 02, #102 and #103.
 use Prim.Native.Nat.{ℕ, zero, suc}
 use mathlib.Core.Bool.{Bool, true, false, _&&_}
 use mathlib.Core.List.{List, [], _∷_, _++_}
 use lib.ListN.{length, getD}
 use Rattle.rules.specs.declared.Instruction.{Instruction}
+use Rattle.rules.specs.declared.Held.{Held}
 use Rattle.rules.specs.declared.Refusal.{Refusal}
 use Rattle.rules.specs.declared.Refusal.the-variants.{CellAbsent}
 use Rattle.rules.specs.declared.Answer.the-variants.{Paused, Refused, ShortBuffer}
@@ -74,8 +75,8 @@ readsFurther contractCall = false
 readsFurther end = false
 readsFurther uncovered = false
 
-module _ (numberMemory : Memory ℕ) where
-  -- is it CALL, and its further cell not held?
+module _ (numberMemory : Memory Held) where
+  -- is it CALL, and its further cell not held? Number and moment of one that is held are not used.
   abbrev pub isUnread : Class → State numberMemory → Bool
   isUnread c s = readsFurther c && isRefused (readBelow numberMemory (s .cells) (r9 numberMemory s) 2)
 

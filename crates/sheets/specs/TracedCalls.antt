@@ -57,9 +57,9 @@ tracedBudgetText text t = tracedCall (jobProgram (loadBudgetText text)) (jobBudg
 
 -- What the code is handed, and what it gives: after the plain call's buffers, the sheet
 
-abbrev pub tracedSnapshot : Machine → List ℕ → List ℕ → List ℕ → List ℕ → List ℕ → TracedSnapshot
-tracedSnapshot m xs ns tape output sheet = record { plain = snapshot m xs ns tape output; sheet = sheet }
+abbrev pub tracedSnapshot : Machine → List ℕ → List ℕ → List ℕ → List ℕ → List ℕ → List ℕ → TracedSnapshot
+tracedSnapshot m xs ns ms tape output sheet = record { plain = snapshot m xs ns ms tape output; sheet = sheet }
 
-abbrev pub tracedCalled : Ran → List ℕ → List ℕ → List ℕ → List ℕ → List ℕ → Called TracedSnapshot
-tracedCalled r xs ns tape output sheet =
-    record { answer = meaning (r .answer); steps = r .steps; left = tracedSnapshot (r .machine) xs ns tape output sheet }
+abbrev pub tracedCalled : Ran → List ℕ → List ℕ → List ℕ → List ℕ → List ℕ → List ℕ → Called TracedSnapshot
+tracedCalled r xs ns ms tape output sheet =
+    record { answer = meaning (r .answer); steps = r .steps; left = tracedSnapshot (r .machine) xs ns ms tape output sheet }

@@ -1,5 +1,5 @@
--- Cases of traced calls: each opcode's line, where 19 comes, CALL's further read, and a line as text. A row is a call and what is looked at
--- in the sheet after it, and then what document 02, #102, says. The theorems stand in proofs/TracedCasesHold.antt.
+-- Cases of traced calls: each opcode's line, where 19 comes, CALL's further read, moments, and a line as text. A row is a call and what is
+-- looked at after it, and then what document 02, #102 and #103, says. The theorems stand in proofs/TracedCasesHold.antt.
 use Prim.Native.Nat.{ℕ, zero, suc, _+_, _*_}
 use mathlib.Core.Path.{_≡_}
 use mathlib.Core.List.{List, [], _∷_, _++_}
@@ -16,7 +16,7 @@ use Rattle.rules.specs.Text.{lineFeed}
 use Rattle.rules.specs.Answers.{Meaning, outcome}
 use Rattle.rules.specs.Calls.{Called}
 use Rattle.rules.specs.Encoding.{frame, imm, absent6, offset7, bytes}
-use Rattle.rules.specs.CaseRows.{Start, start, withR, withCell, withTape, withClk, full, fourCells, startSnapshot, Row, row, Hold, plain, e0, e3, refusedBy, malformed, nothing}
+use Rattle.rules.specs.CaseRows.{Start, start, withR, withCell, withHeld, withTape, withClk, full, fourCells, startSnapshot, Row, row, Hold, plain, e0, e3, refusedBy, malformed, nothing, heldAt}
 use Rattle.sheets.specs.TracedCalls.{TracedSnapshot, tracedWords}
 
 -- a sheet of so many bytes, each ee
@@ -222,6 +222,40 @@ furtherReads =
 
 abbrev pub FurtherReadsHold : Type 0
 FurtherReadsHold = Hold furtherReads
+
+-- Moments: a traced run keeps them as a plain one does, and no line shows them
+
+-- from clk 171, where cells 1 and 2 got their numbers at 169 and R9 is 3
+abbrev withMoments : Start
+withMoments = withR 9 3 (withHeld 1 8 0xA9 (withHeld 2 9 0xA9 (withClk 0xAB start)))
+
+-- number and moment of a cell after a call that has so many bytes
+abbrev leaves : List ℕ → ℕ → ℕ → Meaning → ℕ → List ℕ → Row
+leaves words n a m k h = row (traced 1 words withMoments n) (λ t. heldAt a (t .plain)) m k h
+
+abbrev loads : List ℕ
+loads = frame O.Mload (imm 1) (imm 1) r0
+
+abbrev stores : List ℕ
+stores = frame O.Mstore (imm 1) (imm 1) r0
+
+unfoldable pub keptMoments : List Row
+keptMoments =
+    -- MLOAD reads number and moment, and shows the number
+    shows loads withMoments 1 1 9 7
+    ∷ leaves loads 257 2 e3 1 (9 ∷ 0xA9 ∷ [])
+    -- MSTORE writes: the clk before its step, with a line and not without
+    ∷ shows stores withMoments 1 1 7 7
+    ∷ leaves stores 257 2 e3 1 (7 ∷ 0xAB ∷ [])
+    ∷ leaves stores 256 2 (refusedBy 19) 0 (9 ∷ 0xA9 ∷ [])
+    -- CALL writes cell R9 - 1, and its further read takes nothing from cell R9 - 2
+    ∷ shows (call (imm 4)) withMoments 0 4 0 2
+    ∷ leaves (call (imm 4)) 257 2 e3 1 (2 ∷ 0xAB ∷ [])
+    ∷ leaves (call (imm 4)) 257 1 e3 1 (8 ∷ 0xA9 ∷ [])
+    ∷ []
+
+abbrev pub KeptMomentsHold : Type 0
+KeptMomentsHold = Hold keptMoments
 
 -- A line as text
 

@@ -1,5 +1,5 @@
--- Demand 2 for traced calls: each is refused at entry, or is the traced run over a plain map from address to number, with the same lines.
--- The buffers of cells then hold what that map holds, in rising order.
+-- Demand 2 for traced calls: each is refused at entry, or is the traced run over a plain map from address to number and moment, with the
+-- same lines. The buffers of cells then hold what that map holds, in rising order.
 use Prim.Native.Nat.{ℕ}
 use mathlib.Core.Path.{_≡_}
 use mathlib.Core.Bool.{true, false}

@@ -17,10 +17,10 @@ use Rattle.rules.specs.Calls.{Called, refusedCall, jobBudget, jobProgram}
 use Rattle.rules.specs.Handed.{noMarks}
 use Rattle.sheets.specs.TracedCalls.{TracedSnapshot, tracedSnapshot, tracedCalled, tracedCall}
 
-pub refused-is : (r : Ran) (f : Refusal) (m : Machine) (xs ns tape output sheet : List ℕ) → r ≡ record { answer = Refused f; steps = 0; machine = m; extras = noMarks }
-    → tracedCalled r xs ns tape output sheet ≡ refusedCall f (tracedSnapshot m xs ns tape output sheet)
+pub refused-is : (r : Ran) (f : Refusal) (m : Machine) (xs ns ms tape output sheet : List ℕ) → r ≡ record { answer = Refused f; steps = 0; machine = m; extras = noMarks }
+    → tracedCalled r xs ns ms tape output sheet ≡ refusedCall f (tracedSnapshot m xs ns ms tape output sheet)
 unfolding meaning
-refused-is r f m xs ns tape output sheet e = ap (λ (x : Ran). tracedCalled x xs ns tape output sheet) e
+refused-is r f m xs ns ms tape output sheet e = ap (λ (x : Ran). tracedCalled x xs ns ms tape output sheet) e
 
 module _ (budget : ℕ) (t : TracedSnapshot) (c : Called TracedSnapshot) where
   pub unfit : (program : List Instruction) → plainEntry (t .plain) ≡ false → c ≡ refusedCall BadState t → c ≡ tracedCall (pass program) budget t

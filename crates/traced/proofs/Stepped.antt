@@ -47,14 +47,14 @@ module _ (program : List Instruction) (s : Snapshot) (ls : List (List ℕ)) (at 
 
   pub no-step : plainEntry s ≡ true → (r : Ran) (a : Answer) → r ≡ record { answer = a; steps = 0; machine = s .machine; extras = noMarks }
       → e ≡ Tracing.refusedWith program (length sheet) s ls a
-      → TracedStep e ls at sheet r (snapshot (r .machine) (s .addresses) (s .numbers) (s .tape) (s .output)) sheet
+      → TracedStep e ls at sheet r (snapshot (r .machine) (s .addresses) (s .numbers) (s .moments) (s .tape) (s .output)) sheet
   unfolding linesText lineBytes
   no-step fit r a h g =
       record {
         answer = ap (λ (x : Ran). x .answer) h ∙ sym (ap (λ (x : TracedEnd). x .answer) g);
         steps = ap (λ (x : Ran). x .steps) h ∙ sym (ap (λ (x : TracedEnd). x .steps) g);
         most = rw (ap (λ (x : Ran). x .steps) h) (omega arith);
-        left = ap (λ (x : Ran). snapshot (x .machine) (s .addresses) (s .numbers) (s .tape) (s .output)) h ∙ sym (restored s fit) ∙ sym (ap (λ (x : TracedEnd). x .left) g);
+        left = ap (λ (x : Ran). snapshot (x .machine) (s .addresses) (s .numbers) (s .moments) (s .tape) (s .output)) h ∙ sym (restored s fit) ∙ sym (ap (λ (x : TracedEnd). x .left) g);
         extras = ap (λ (x : Ran). x .extras) h;
         added = [];
         lines = ap (λ (x : TracedEnd). x .lines) g ∙ sym (append-nil ls);

@@ -35,6 +35,7 @@ fn enter(
     machine: Machine,
     addresses: &mut [u64],
     numbers: &mut [u64],
+    moments: &mut [u64],
     tape: &mut [u64],
     output: &mut [u64],
     values: &mut [u64],
@@ -42,14 +43,14 @@ fn enter(
 ) -> Ran
     requires { ⌜ Loaded (now words) (now rows) ⌝ }
     requires { ⌜ wordSlot + length (now words) ≤ length (now values) ⌝ }
-    ensures { λ r. ⌜ tracedCalled r (now (addresses .exit)) (now (numbers .exit)) (now (tape .exit)) (now (output .exit))
-        (now (sheet .exit))
+    ensures { λ r. ⌜ tracedCalled r (now (addresses .exit)) (now (numbers .exit)) (now (moments .exit)) (now (tape .exit))
+        (now (output .exit)) (now (sheet .exit))
         ≡ tracedCall (pass (programOf (now (words .entry)))) budget
-        (tracedSnapshot machine (now (addresses .entry)) (now (numbers .entry)) (now (tape .entry)) (now (output .entry))
-        (now (sheet .entry))) ⌝ }
+        (tracedSnapshot machine (now (addresses .entry)) (now (numbers .entry)) (now (moments .entry)) (now (tape .entry))
+        (now (output .entry)) (now (sheet .entry))) ⌝ }
     ensures { λ r. ⌜ r .extras ≡ noMarks ⌝ }
 {
-    if entry::accepts(machine, addresses, numbers, tape, output) {
+    if entry::accepts(machine, addresses, numbers, moments, tape, output) {
         return stepping::run(
             words,
             rows,
@@ -57,6 +58,7 @@ fn enter(
             machine,
             addresses,
             numbers,
+            moments,
             tape,
             output,
             values,
@@ -73,15 +75,16 @@ pub fn run_words(
     machine: Machine,
     addresses: &mut [u64],
     numbers: &mut [u64],
+    moments: &mut [u64],
     tape: &mut [u64],
     output: &mut [u64],
     sheet: &mut [u8],
 ) -> Ran
-    ensures { λ r. ⌜ tracedCalled r (now (addresses .exit)) (now (numbers .exit)) (now (tape .exit)) (now (output .exit))
-        (now (sheet .exit))
+    ensures { λ r. ⌜ tracedCalled r (now (addresses .exit)) (now (numbers .exit)) (now (moments .exit)) (now (tape .exit))
+        (now (output .exit)) (now (sheet .exit))
         ≡ tracedWords (now (words .entry)) budget
-        (tracedSnapshot machine (now (addresses .entry)) (now (numbers .entry)) (now (tape .entry)) (now (output .entry))
-        (now (sheet .entry))) ⌝ }
+        (tracedSnapshot machine (now (addresses .entry)) (now (numbers .entry)) (now (moments .entry)) (now (tape .entry))
+        (now (output .entry)) (now (sheet .entry))) ⌝ }
     ensures { λ r. ⌜ r .extras ≡ noMarks ⌝ }
 {
     let mut rows = [0u16; table::ROWS];
@@ -94,6 +97,7 @@ pub fn run_words(
             machine,
             addresses,
             numbers,
+            moments,
             tape,
             output,
             &mut values,
@@ -110,15 +114,16 @@ pub fn run_text(
     machine: Machine,
     addresses: &mut [u64],
     numbers: &mut [u64],
+    moments: &mut [u64],
     tape: &mut [u64],
     output: &mut [u64],
     sheet: &mut [u8],
 ) -> Ran
-    ensures { λ r. ⌜ tracedCalled r (now (addresses .exit)) (now (numbers .exit)) (now (tape .exit)) (now (output .exit))
-        (now (sheet .exit))
+    ensures { λ r. ⌜ tracedCalled r (now (addresses .exit)) (now (numbers .exit)) (now (moments .exit)) (now (tape .exit))
+        (now (output .exit)) (now (sheet .exit))
         ≡ tracedText (now (text .entry)) budget
-        (tracedSnapshot machine (now (addresses .entry)) (now (numbers .entry)) (now (tape .entry)) (now (output .entry))
-        (now (sheet .entry))) ⌝ }
+        (tracedSnapshot machine (now (addresses .entry)) (now (numbers .entry)) (now (moments .entry)) (now (tape .entry))
+        (now (output .entry)) (now (sheet .entry))) ⌝ }
     ensures { λ r. ⌜ r .extras ≡ noMarks ⌝ }
 {
     let mut words = [0u64; binary_program::WORD_LIMIT];
@@ -132,6 +137,7 @@ pub fn run_text(
             machine,
             addresses,
             numbers,
+            moments,
             tape,
             output,
             sheet,
@@ -146,15 +152,16 @@ pub fn run_budget_text(
     machine: Machine,
     addresses: &mut [u64],
     numbers: &mut [u64],
+    moments: &mut [u64],
     tape: &mut [u64],
     output: &mut [u64],
     sheet: &mut [u8],
 ) -> Ran
-    ensures { λ r. ⌜ tracedCalled r (now (addresses .exit)) (now (numbers .exit)) (now (tape .exit)) (now (output .exit))
-        (now (sheet .exit))
+    ensures { λ r. ⌜ tracedCalled r (now (addresses .exit)) (now (numbers .exit)) (now (moments .exit)) (now (tape .exit))
+        (now (output .exit)) (now (sheet .exit))
         ≡ tracedBudgetText (now (text .entry))
-        (tracedSnapshot machine (now (addresses .entry)) (now (numbers .entry)) (now (tape .entry)) (now (output .entry))
-        (now (sheet .entry))) ⌝ }
+        (tracedSnapshot machine (now (addresses .entry)) (now (numbers .entry)) (now (moments .entry)) (now (tape .entry))
+        (now (output .entry)) (now (sheet .entry))) ⌝ }
     ensures { λ r. ⌜ r .extras ≡ noMarks ⌝ }
 {
     let mut words = [0u64; binary_program::WORD_LIMIT];
@@ -169,6 +176,7 @@ pub fn run_budget_text(
             machine,
             addresses,
             numbers,
+            moments,
             tape,
             output,
             sheet,

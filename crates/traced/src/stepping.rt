@@ -38,16 +38,19 @@ fn plain_step(
     machine: Machine,
     addresses: &mut [u64],
     numbers: &mut [u64],
+    moments: &mut [u64],
     tape: &mut [u64],
     output: &mut [u64],
     values: &mut [u64],
 ) -> Ran
     requires { ⌜ Loaded (now words) (now rows) ⌝ }
     requires { ⌜ wordSlot + length (now words) ≤ length (now values) ⌝ }
-    requires { ⌜ plainEntry (snapshot machine (now addresses) (now numbers) (now tape) (now output)) ≡ true ⌝ }
+    requires { ⌜ plainEntry (snapshot machine (now addresses) (now numbers) (now moments) (now tape) (now output)) ≡ true ⌝ }
     ensures { λ r. ⌜ PlainStep (programOf (now (words .entry)))
-        (snapshot machine (now (addresses .entry)) (now (numbers .entry)) (now (tape .entry)) (now (output .entry)))
-        r (snapshot (r .machine) (now (addresses .exit)) (now (numbers .exit)) (now (tape .exit)) (now (output .exit))) ⌝ }
+        (snapshot machine (now (addresses .entry)) (now (numbers .entry)) (now (moments .entry))
+        (now (tape .entry)) (now (output .entry)))
+        r (snapshot (r .machine) (now (addresses .exit)) (now (numbers .exit)) (now (moments .exit))
+        (now (tape .exit)) (now (output .exit))) ⌝ }
 {
     let mut none = [0u64; 1];
     interpreter::run(
@@ -58,6 +61,7 @@ fn plain_step(
         machine,
         addresses,
         numbers,
+        moments,
         &mut none[..0],
         tape,
         output,
@@ -72,22 +76,26 @@ fn try_step(
     machine: Machine,
     addresses: &[u64],
     numbers: &[u64],
+    moments: &[u64],
     tape: &[u64],
     output: &[u64],
     values: &mut [u64],
 ) -> Ran
     requires { ⌜ Loaded (now words) (now rows) ⌝ }
     requires { ⌜ wordSlot + length (now words) ≤ length (now values) ⌝ }
-    requires { ⌜ plainEntry (snapshot machine (now addresses) (now numbers) (now tape) (now output)) ≡ true ⌝ }
+    requires { ⌜ plainEntry (snapshot machine (now addresses) (now numbers) (now moments) (now tape) (now output)) ≡ true ⌝ }
     ensures { λ r. ⌜ PlainAnswer (programOf (now (words .entry)))
-        (snapshot machine (now (addresses .entry)) (now (numbers .entry)) (now (tape .entry)) (now (output .entry))) r ⌝ }
+        (snapshot machine (now (addresses .entry)) (now (numbers .entry)) (now (moments .entry))
+        (now (tape .entry)) (now (output .entry))) r ⌝ }
 {
     let mut tried_addresses = [0u64; entry::CELL_LIMIT];
     let mut tried_numbers = [0u64; entry::CELL_LIMIT];
+    let mut tried_moments = [0u64; entry::CELL_LIMIT];
     let mut tried_tape = [0u64; entry::VALUE_LIMIT];
     let mut tried_output = [0u64; entry::VALUE_LIMIT];
     storing::tape::write_values(addresses, &mut tried_addresses);
     storing::tape::write_values(numbers, &mut tried_numbers);
+    storing::tape::write_values(moments, &mut tried_moments);
     storing::tape::write_values(tape, &mut tried_tape);
     storing::tape::write_values(output, &mut tried_output);
     plain_step(
@@ -96,6 +104,7 @@ fn try_step(
         machine,
         &mut tried_addresses[..addresses.len()],
         &mut tried_numbers[..numbers.len()],
+        &mut tried_moments[..moments.len()],
         &mut tried_tape[..tape.len()],
         &mut tried_output[..output.len()],
         values,
@@ -109,16 +118,18 @@ fn step_without_line(
     machine: Machine,
     addresses: &[u64],
     numbers: &[u64],
+    moments: &[u64],
     tape: &[u64],
     output: &[u64],
     values: &mut [u64],
 ) -> Ran
     requires { ⌜ Loaded (now words) (now rows) ⌝ }
     requires { ⌜ wordSlot + length (now words) ≤ length (now values) ⌝ }
-    requires { ⌜ plainEntry (snapshot machine (now addresses) (now numbers) (now tape) (now output)) ≡ true ⌝ }
+    requires { ⌜ plainEntry (snapshot machine (now addresses) (now numbers) (now moments) (now tape) (now output)) ≡ true ⌝ }
     ensures { λ r. ⌜ r ≡ record {
       answer = shortAnswer (programOf (now (words .entry)))
-          (snapshot machine (now (addresses .entry)) (now (numbers .entry)) (now (tape .entry)) (now (output .entry)));
+          (snapshot machine (now (addresses .entry)) (now (numbers .entry)) (now (moments .entry))
+          (now (tape .entry)) (now (output .entry)));
       steps = 0;
       machine = machine;
       extras = noMarks;
@@ -130,6 +141,7 @@ fn step_without_line(
         machine,
         addresses,
         numbers,
+        moments,
         tape,
         output,
         values,
@@ -149,6 +161,7 @@ fn step(
     machine: Machine,
     addresses: &mut [u64],
     numbers: &mut [u64],
+    moments: &mut [u64],
     tape: &mut [u64],
     output: &mut [u64],
     values: &mut [u64],
@@ -156,13 +169,15 @@ fn step(
 ) -> Ran
     requires { ⌜ Loaded (now words) (now rows) ⌝ }
     requires { ⌜ wordSlot + length (now words) ≤ length (now values) ⌝ }
-    requires { ⌜ plainEntry (snapshot machine (now addresses) (now numbers) (now tape) (now output)) ≡ true ⌝ }
+    requires { ⌜ plainEntry (snapshot machine (now addresses) (now numbers) (now moments) (now tape) (now output)) ≡ true ⌝ }
     requires { ⌜ at ≤ length (now sheet) ⌝ }
     ensures { λ r. ⌜ ((ls : List (List ℕ)) → at ≡ lineBytes * length ls
         → TracedStep (endOf (programOf (now (words .entry))) (length (now (sheet .entry))) 1
-        (snapshot machine (now (addresses .entry)) (now (numbers .entry)) (now (tape .entry)) (now (output .entry))) ls)
+        (snapshot machine (now (addresses .entry)) (now (numbers .entry)) (now (moments .entry))
+        (now (tape .entry)) (now (output .entry))) ls)
         ls at (now (sheet .entry))
-        r (snapshot (r .machine) (now (addresses .exit)) (now (numbers .exit)) (now (tape .exit)) (now (output .exit)))
+        r (snapshot (r .machine) (now (addresses .exit)) (now (numbers .exit)) (now (moments .exit))
+        (now (tape .exit)) (now (output .exit)))
         (now (sheet .exit))) ⌝ }
 {
     let look = looking::look(words, rows, machine, addresses, values);
@@ -176,6 +191,7 @@ fn step(
             machine,
             addresses,
             numbers,
+            moments,
             tape,
             output,
             values,
@@ -187,6 +203,7 @@ fn step(
         machine,
         addresses,
         numbers,
+        moments,
         tape,
         output,
         values,
@@ -218,6 +235,7 @@ pub(crate) fn run(
     start: Machine,
     addresses: &mut [u64],
     numbers: &mut [u64],
+    moments: &mut [u64],
     tape: &mut [u64],
     output: &mut [u64],
     values: &mut [u64],
@@ -225,12 +243,12 @@ pub(crate) fn run(
 ) -> Ran
     requires { ⌜ Loaded (now words) (now rows) ⌝ }
     requires { ⌜ wordSlot + length (now words) ≤ length (now values) ⌝ }
-    requires { ⌜ plainEntry (snapshot start (now addresses) (now numbers) (now tape) (now output)) ≡ true ⌝ }
-    ensures { λ r. ⌜ tracedCalled r (now (addresses .exit)) (now (numbers .exit)) (now (tape .exit)) (now (output .exit))
-        (now (sheet .exit))
+    requires { ⌜ plainEntry (snapshot start (now addresses) (now numbers) (now moments) (now tape) (now output)) ≡ true ⌝ }
+    ensures { λ r. ⌜ tracedCalled r (now (addresses .exit)) (now (numbers .exit)) (now (moments .exit)) (now (tape .exit))
+        (now (output .exit)) (now (sheet .exit))
         ≡ tracedCall (pass (programOf (now (words .entry)))) budget
-        (tracedSnapshot start (now (addresses .entry)) (now (numbers .entry)) (now (tape .entry)) (now (output .entry))
-        (now (sheet .entry))) ⌝ }
+        (tracedSnapshot start (now (addresses .entry)) (now (numbers .entry)) (now (moments .entry)) (now (tape .entry))
+        (now (output .entry)) (now (sheet .entry))) ⌝ }
     ensures { λ r. ⌜ r .extras ≡ noMarks ⌝ }
 {
     let mut machine = start;
@@ -244,6 +262,7 @@ pub(crate) fn run(
             machine,
             addresses,
             numbers,
+            moments,
             tape,
             output,
             values,

@@ -6,9 +6,9 @@ use Rattle.looking.proofs.is_absent_below.Statement.{statement}
 use Rattle.looking.proofs.is_absent_below.Tie as tie
 
 returns : tie.Need-returns
-returns c ns level =
+returns c ns ms level momentLevel =
     let s = c .before .before in
-    too-low (s .args .count) (s .args .addresses .now) (s .pre) (s .args .r9) ns level (c .if1 .taken)
+    too-low (s .args .count) (s .args .addresses .now) (s .pre) (s .args .r9) ns ms level momentLevel (c .if1 .taken)
 
 find-requires : tie.Need-find-requires
 find-requires c κs = search needs
@@ -20,17 +20,17 @@ enum-told-2 : tie.Need-enum-told-2
 enum-told-2 c = search needs
 
 returns-2 : tie.Need-returns-2
-returns-2 c ns level =
+returns-2 c ns ms level momentLevel =
     let f = c .before .before in
     let s = f .before .before .before in
-    cell-present (s .args .count) (s .args .addresses .now) (s .pre) (s .args .r9) ns level _ (f .before .if1 .left)
+    cell-present (s .args .count) (s .args .addresses .now) (s .pre) (s .args .r9) ns ms level momentLevel _ (f .before .if1 .left)
     (sym (f .find .ensures) ∙ c .enum-told .given .1)
 
 returns-3 : tie.Need-returns-3
-returns-3 c ns level =
+returns-3 c ns ms level momentLevel =
     let f = c .before .before in
     let s = f .before .before .before in
-    cell-absent (s .args .count) (s .args .addresses .now) (s .pre) (s .args .r9) ns level _ (f .before .if1 .left)
+    cell-absent (s .args .count) (s .args .addresses .now) (s .pre) (s .args .r9) ns ms level momentLevel _ (f .before .if1 .left)
     (sym (f .find .ensures) ∙ c .enum-told2 .given .1)
 
 pub is-absent-below-spec : {M : Type 1} → statement M

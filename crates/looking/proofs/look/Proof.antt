@@ -61,11 +61,11 @@ nothing-requires c κs = search needs
 
 returns : tie.Need-returns
 returns c = (
-  λ ns tape output level.
+  λ ns ms tape output level momentLevel.
       let s = c .before .before .before .before .before .before .before .before in
       let a = s .args in
-      subst (Looks (programOf (a .words .now)) (snapshot (a .machine) (a .addresses .now) ns tape output)) (sym (c .nothing .ensures))
-      (outside-looks (s .pre .0 .table) (a .machine) (a .addresses .now) ns tape output
+      subst (Looks (programOf (a .words .now)) (snapshot (a .machine) (a .addresses .now) ns ms tape output)) (sym (c .nothing .ensures))
+      (outside-looks (s .pre .0 .table) (a .machine) (a .addresses .now) ns ms tape output
       (sym (c .before .enum-told .given .1) ∙ c .before .before .before .row-at .ensures)),
   refl,
 )
@@ -104,9 +104,10 @@ returns-2 c =
     let d = c .before .before .before .before .before .before in
     let p = c .before .before .before .before .before .prepare .ensures in
     let a = entry d .args in (
-      λ ns tape output level.
-          subst (Looks (programOf (a .words .now)) (snapshot (a .machine) (a .addresses .now) ns tape output)) (sym (c .nothing2 .ensures))
-          (refused-looks (table d) (a .machine) (a .addresses .now) ns tape output (row d) (at d) (loaded d) (standing d) (kept d) p _
+      λ ns ms tape output level momentLevel.
+          subst (Looks (programOf (a .words .now)) (snapshot (a .machine) (a .addresses .now) ns ms tape output))
+          (sym (c .nothing2 .ensures))
+          (refused-looks (table d) (a .machine) (a .addresses .now) ns ms tape output (row d) (at d) (loaded d) (standing d) (kept d) p _
           (c .before .enum-told2 .given .1)),
       p .size ∙ same d,
     )
@@ -119,8 +120,9 @@ returns-3 c =
     let d = c .before .before .before .before .before .before .before in
     let p = c .before .before .before .before .before .before in
     let a = entry d .args in (
-      λ ns tape output level.
-          seen-looks (table d) (a .machine) (a .addresses .now) ns tape output (row d) (at d) (loaded d) (standing d) (kept d) level
+      λ ns ms tape output level momentLevel.
+          seen-looks (table d) (a .machine) (a .addresses .now) ns ms tape output (row d) (at d) (loaded d) (standing d) (kept d)
+          level momentLevel
           (subst (λ r. Prepares (a .words .now) (a .rows .now) (row d) (loaded d) r (p .prepare .last .1 .1 .1 .0))
           (c .before .before .enum-told3 .given .1) (p .prepare .ensures))
           (c .look-at .ensures),

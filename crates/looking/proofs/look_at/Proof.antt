@@ -71,18 +71,18 @@ register-requires : tie.Need-register-requires
 register-requires c κs = search needs
 
 -- whether the further cell is read and absent
-module _ (c : tie.Joined1) (ns : List ℕ) where
+module _ (c : tie.Joined1) (ns ms : List ℕ) where
   abbrev entry : tie.Start
   entry = c .before .before .before .before .before .before .before .before .before .before .before .before
 
   abbrev isAbsent : Bool
-  isAbsent = isRefused (readBelow numberCells (cellsOf (entry .args .count) (entry .args .addresses .now) ns) (entry .args .r9) 2)
+  isAbsent = isRefused (readBelow numberCells (cellsOf (entry .args .count) (entry .args .addresses .now) ns ms) (entry .args .r9) 2)
 
-  unread : length ns ≡ length (entry .args .addresses .now)
+  unread : length ns ≡ length (entry .args .addresses .now) → length ms ≡ length (entry .args .addresses .now)
       → c .if1 .t20 ≡ (readsFurther (classOf (c .before .before .before .before .before .before .opcode2 .given .0 .0)) && isAbsent)
-  unread level =
+  unread level momentLevel =
       let f = sym (c .before .reads-further .ensures) in
-      ⊎-elim (λ w. w .2 ∙ w .1 .ensures ns level ∙ sym (ap (λ b. b && isAbsent) (f ∙ w .0 .taken)))
+      ⊎-elim (λ w. w .2 ∙ w .1 .ensures ns ms level momentLevel ∙ sym (ap (λ b. b && isAbsent) (f ∙ w .0 .taken)))
       (λ w. w .1 ∙ w .0 .left ∙ sym (ap (λ b. b && isAbsent) (f ∙ w .0 .left))) (c .if1 .came)
 
 returns-2 : tie.Need-returns-2

@@ -10,7 +10,7 @@ accepts-requires : tie.Need-accepts-requires
 accepts-requires c κs = search needs
 
 run-requires : tie.Need-run-requires
-run-requires c κs = let s = c .before .before .before .before .before .before .before .before .before .before .before .before .before .before .before .before .before .before .before .before in (s .pre .0, (s .pre .1, sym (c .before .before .before .before .before .before .before .accepts .ensures) ∙ c .before .before .before .before .before .before .if1 .taken))
+run-requires c κs = let s = c .before .before .before .before .before .before .before .before .before .before .before .before .before .before .before .before .before .before .before .before .before .before .before in (s .pre .0, (s .pre .1, sym (c .before .before .before .before .before .before .before .before .accepts .ensures) ∙ c .before .before .before .before .before .before .before .if1 .taken))
 
 same-length : tie.Need-same-length
 same-length c = search needs
@@ -30,14 +30,14 @@ same-length-5 c = search needs
 same-length-6 : tie.Need-same-length-6
 same-length-6 c = search needs
 
+same-length-7 : tie.Need-same-length-7
+same-length-7 c = search needs
+
 returns : tie.Need-returns
 returns c = search needs
 
 stop-requires : tie.Need-stop-requires
 stop-requires c κs = search needs
-
-same-length-7 : tie.Need-same-length-7
-same-length-7 c = search needs
 
 same-length-8 : tie.Need-same-length-8
 same-length-8 c = search needs
@@ -48,8 +48,14 @@ same-length-9 c = search needs
 same-length-10 : tie.Need-same-length-10
 same-length-10 c = search needs
 
+same-length-11 : tie.Need-same-length-11
+same-length-11 c = search needs
+
+same-length-12 : tie.Need-same-length-12
+same-length-12 c = search needs
+
 returns-2 : tie.Need-returns-2
-returns-2 c = (unfit _ _ _ _ (sym (c .before .before .accepts .ensures) ∙ c .before .if1 .left) (refused-is _ _ _ _ _ _ _ _ (c .stop .ensures)), ap (λ (r : Ran). r .extras) (c .stop .ensures))
+returns-2 c = (unfit _ _ _ _ (sym (c .before .before .accepts .ensures) ∙ c .before .if1 .left) (refused-is _ _ _ _ _ _ _ _ _ (c .stop .ensures)), ap (λ (r : Ran). r .extras) (c .stop .ensures))
 
 pub enter-spec : {M : Type 1} → statement M
 enter-spec =
@@ -63,10 +69,12 @@ enter-spec =
     same-length-4
     same-length-5
     same-length-6
+    same-length-7
     returns
     stop-requires
-    same-length-7
     same-length-8
     same-length-9
     same-length-10
+    same-length-11
+    same-length-12
     returns-2)

@@ -50,17 +50,20 @@ same-length-4 c = search needs
 same-length-5 : tie.Need-same-length-5
 same-length-5 c = search needs
 
+same-length-6 : tie.Need-same-length-6
+same-length-6 c = search needs
+
 returns : tie.Need-returns
 unfolding tracedWords tracedBudgetText
 returns c =
-    let l = subst (LoadsBudgetText _ _) (c .before .before .before .before .before .before .before .before .before .before .before .before .before .before .before .before .before .before .budget .given .1) (c .before .before .before .before .before .before .before .before .before .before .before .before .before .before .before .before .before .before .before .before .load-budget-text .ensures) in
-    let e = c .before .before .before .before .before .before .before .before .before .before .run-words .ensures in
+    let l = subst (LoadsBudgetText _ _) (c .before .before .before .before .before .before .before .before .before .before .before .before .before .before .before .before .before .before .before .before .before .budget .given .1) (c .before .before .before .before .before .before .before .before .before .before .before .before .before .before .before .before .before .before .before .before .before .before .before .load-budget-text .ensures) in
+    let e = c .before .before .before .before .before .before .before .before .before .before .before .before .run-words .ensures in
     (rw (l .0) (rw (l .1 .loaded) at (e .0)), e .1)
 
 returns-2 : tie.Need-returns-2
 unfolding tracedBudgetText
 returns-2 c =
-    (job-refused _ _ _ _ (subst (LoadsBudgetText _ _) (c .before .before .refusal .given .1) (c .before .before .before .before .load-budget-text .ensures)) (refused-is _ _ _ _ _ _ _ _ (c .stop .ensures)), ap (λ (r : Ran). r .extras) (c .stop .ensures))
+    (job-refused _ _ _ _ (subst (LoadsBudgetText _ _) (c .before .before .refusal .given .1) (c .before .before .before .before .load-budget-text .ensures)) (refused-is _ _ _ _ _ _ _ _ _ (c .stop .ensures)), ap (λ (r : Ran). r .extras) (c .stop .ensures))
 
 pub run-budget-text-spec : {M : Type 1} → statement M
 run-budget-text-spec =
@@ -78,5 +81,6 @@ run-budget-text-spec =
     same-length-3
     same-length-4
     same-length-5
+    same-length-6
     returns
     returns-2)

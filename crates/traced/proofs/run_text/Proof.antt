@@ -50,17 +50,20 @@ same-length-4 c = search needs
 same-length-5 : tie.Need-same-length-5
 same-length-5 c = search needs
 
+same-length-6 : tie.Need-same-length-6
+same-length-6 c = search needs
+
 returns : tie.Need-returns
 unfolding tracedWords tracedText
 returns c =
-    let l = subst (LoadsText _ _) (c .before .before .before .before .before .before .before .before .before .before .before .before .before .before .before .before .before .before .count .given .1) (c .before .before .before .before .before .before .before .before .before .before .before .before .before .before .before .before .before .before .before .before .load-text .ensures) in
-    let e = c .before .before .before .before .before .before .before .before .before .before .run-words .ensures in
+    let l = subst (LoadsText _ _) (c .before .before .before .before .before .before .before .before .before .before .before .before .before .before .before .before .before .before .before .before .before .count .given .1) (c .before .before .before .before .before .before .before .before .before .before .before .before .before .before .before .before .before .before .before .before .before .before .before .load-text .ensures) in
+    let e = c .before .before .before .before .before .before .before .before .before .before .before .before .run-words .ensures in
     (rw (l .0 ∙ sym (l .1 .loaded)) (e .0), e .1)
 
 returns-2 : tie.Need-returns-2
 unfolding tracedText
 returns-2 c =
-    (load-refused _ _ _ _ _ (subst (LoadsText _ _) (c .before .before .refusal .given .1) (c .before .before .before .before .load-text .ensures)) (refused-is _ _ _ _ _ _ _ _ (c .stop .ensures)), ap (λ (r : Ran). r .extras) (c .stop .ensures))
+    (load-refused _ _ _ _ _ (subst (LoadsText _ _) (c .before .before .refusal .given .1) (c .before .before .before .before .load-text .ensures)) (refused-is _ _ _ _ _ _ _ _ _ (c .stop .ensures)), ap (λ (r : Ran). r .extras) (c .stop .ensures))
 
 pub run-text-spec : {M : Type 1} → statement M
 run-text-spec =
@@ -78,5 +81,6 @@ run-text-spec =
     same-length-3
     same-length-4
     same-length-5
+    same-length-6
     returns
     returns-2)

@@ -27,7 +27,7 @@ slice-aggregate-enter-2 c = search needs
 
 enter-requires : tie.Need-enter-requires
 enter-requires c κs =
-    let l = subst (Loads _ _) (c .before .before .before .before .before .before .before .enum-told .given .1) (c .before .before .before .before .before .before .before .before .before .before .load-words .ensures) in
+    let l = subst (Loads _ _) (c .before .before .before .before .before .before .before .before .enum-told .given .1) (c .before .before .before .before .before .before .before .before .before .before .before .load-words .ensures) in
     (record { loads = l .0; table = l .2 }, omega (arith, l .2 .words))
 
 enum-known-refusal : tie.Need-enum-known-refusal
@@ -51,17 +51,20 @@ same-length-4 c = search needs
 same-length-5 : tie.Need-same-length-5
 same-length-5 c = search needs
 
+same-length-6 : tie.Need-same-length-6
+same-length-6 c = search needs
+
 returns : tie.Need-returns
 unfolding tracedWords
 returns c =
-    let l = subst (Loads _ _) (c .before .before .before .before .before .before .before .before .before .before .before .before .before .before .before .before .before .before .before .enum-told .given .1) (c .before .before .before .before .before .before .before .before .before .before .before .before .before .before .before .before .before .before .before .before .before .before .load-words .ensures) in
-    let e = c .before .before .before .before .before .before .before .before .before .before .before .enter .ensures in
+    let l = subst (Loads _ _) (c .before .before .before .before .before .before .before .before .before .before .before .before .before .before .before .before .before .before .before .before .before .before .enum-told .given .1) (c .before .before .before .before .before .before .before .before .before .before .before .before .before .before .before .before .before .before .before .before .before .before .before .before .before .load-words .ensures) in
+    let e = c .before .before .before .before .before .before .before .before .before .before .before .before .before .enter .ensures in
     (rw (l .0) (e .0), e .1)
 
 returns-2 : tie.Need-returns-2
 unfolding tracedWords
 returns-2 c =
-    (load-refused _ _ _ _ _ (subst (Loads _ _) (c .before .before .refusal .given .1) (c .before .before .before .before .before .load-words .ensures)) (refused-is _ _ _ _ _ _ _ _ (c .stop .ensures)), ap (λ (r : Ran). r .extras) (c .stop .ensures))
+    (load-refused _ _ _ _ _ (subst (Loads _ _) (c .before .before .refusal .given .1) (c .before .before .before .before .before .load-words .ensures)) (refused-is _ _ _ _ _ _ _ _ _ (c .stop .ensures)), ap (λ (r : Ran). r .extras) (c .stop .ensures))
 
 pub run-words-spec : {M : Type 1} → statement M
 run-words-spec =
@@ -80,5 +83,6 @@ run-words-spec =
     same-length-3
     same-length-4
     same-length-5
+    same-length-6
     returns
     returns-2)

@@ -16,9 +16,9 @@ slice-aggregate-run c = search needs
 
 run-requires : tie.Need-run-requires
 run-requires c κs =
-    let s = c .before .before .before .before .before .before .before .before .before .before .before .before .before .before in
+    let s = c .before .before .before .before .before .before .before .before .before .before .before .before .before .before .before .before in
     let a = s .args in
-    (s .pre .0, (s .pre .1 .0, passes-plain (a .machine) (a .addresses .now) (a .numbers .now) (a .tape .now) (a .output .now) (c .before .before .before .before .before .before .mode .result) (c .before .before .before .before .before .before .mode .ensures) (s .pre .1 .1)))
+    (s .pre .0, (s .pre .1 .0, passes-plain (a .machine) (a .addresses .now) (a .numbers .now) (a .moments .now) (a .tape .now) (a .output .now) (c .before .before .before .before .before .before .before .mode .result) (c .before .before .before .before .before .before .before .mode .ensures) (s .pre .1 .1)))
 
 same-length : tie.Need-same-length
 same-length c = search needs
@@ -35,13 +35,16 @@ same-length-4 c = search needs
 same-length-5 : tie.Need-same-length-5
 same-length-5 c = search needs
 
+same-length-6 : tie.Need-same-length-6
+same-length-6 c = search needs
+
 returns : tie.Need-returns
 returns c =
-    let a = c .before .before .before .before .before .before .before .before .before .before .before .before .before .before .before .before .before .before .before .before .before .before .before .before .before .before .args in
-    let r = c .before .before .before .before .before .before .before .before .before .before .before .run in
-    stepped-plain (a .machine) (a .addresses .now) (a .numbers .now) (a .tape .now) (a .output .now) (programOf (a .words .now)) (r .result)
-    (r .last .1 .1 .1 .1 .1 .0) (r .last .1 .1 .1 .1 .1 .1 .0) (r .last .1 .1 .1 .1 .1 .1 .1 .0) (r .last .1 .1 .1 .1 .1 .1 .1 .1 .0) (r .last .1 .1 .1 .1 .1 .1 .1 .1 .1 .0)
-    (c .before .before .before .before .before .before .before .before .before .before .before .before .before .before .before .before .before .before .mode .result) (c .before .before .before .before .before .before .before .before .before .before .before .before .before .before .before .before .before .before .mode .ensures) (r .ensures)
+    let a = c .before .before .before .before .before .before .before .before .before .before .before .before .before .before .before .before .before .before .before .before .before .before .before .before .before .before .before .before .before .before .args in
+    let r = c .before .before .before .before .before .before .before .before .before .before .before .before .before .run in
+    stepped-plain (a .machine) (a .addresses .now) (a .numbers .now) (a .moments .now) (a .tape .now) (a .output .now) (programOf (a .words .now)) (r .result)
+    (r .last .1 .1 .1 .1 .1 .0) (r .last .1 .1 .1 .1 .1 .1 .0) (r .last .1 .1 .1 .1 .1 .1 .1 .0) (r .last .1 .1 .1 .1 .1 .1 .1 .1 .0) (r .last .1 .1 .1 .1 .1 .1 .1 .1 .1 .0) (r .last .1 .1 .1 .1 .1 .1 .1 .1 .1 .1 .0)
+    (c .before .before .before .before .before .before .before .before .before .before .before .before .before .before .before .before .before .before .before .before .before .mode .result) (c .before .before .before .before .before .before .before .before .before .before .before .before .before .before .before .before .before .before .before .before .before .mode .ensures) (r .ensures)
 
 pub plain-step-spec : {M : Type 1} → statement M
 plain-step-spec =
@@ -56,4 +59,5 @@ plain-step-spec =
     same-length-3
     same-length-4
     same-length-5
+    same-length-6
     returns)

@@ -24,10 +24,10 @@ same-length c = search needs
 
 returns : tie.Need-returns
 returns c =
-    let a = c .before .before .before .before .before .before .before .before .before .before .before .before .before .before .args in
+    let a = c .before .before .before .before .before .before .before .before .before .before .before .before .before .before .before .args in
     let t = c .before .before .before .before .before .try-step in
     c .stop .ensures
-    ∙ ap (stopped (a .machine)) (own-refusal (programOf (a .words .now)) (snapshot (a .machine) (a .addresses .now) (a .numbers .now) (a .tape .now) (a .output .now)) (t .result) (t .ensures) (c .before .if1 .taken))
+    ∙ ap (stopped (a .machine)) (own-refusal (programOf (a .words .now)) (snapshot (a .machine) (a .addresses .now) (a .numbers .now) (a .moments .now) (a .tape .now) (a .output .now)) (t .result) (t .ensures) (c .before .if1 .taken))
 
 stop-requires-2 : tie.Need-stop-requires-2
 stop-requires-2 c κs = search needs
@@ -37,10 +37,10 @@ same-length-2 c = search needs
 
 returns-2 : tie.Need-returns-2
 returns-2 c =
-    let a = c .before .before .before .before .before .before .before .before .before .before .before .before .before .before .args in
+    let a = c .before .before .before .before .before .before .before .before .before .before .before .before .before .before .before .args in
     let t = c .before .before .before .before .before .try-step in
     c .stop2 .ensures
-    ∙ ap (stopped (a .machine)) (too-short (programOf (a .words .now)) (snapshot (a .machine) (a .addresses .now) (a .numbers .now) (a .tape .now) (a .output .now)) (t .result) (t .ensures) (c .before .if1 .left))
+    ∙ ap (stopped (a .machine)) (too-short (programOf (a .words .now)) (snapshot (a .machine) (a .addresses .now) (a .numbers .now) (a .moments .now) (a .tape .now) (a .output .now)) (t .result) (t .ensures) (c .before .if1 .left))
 
 pub step-without-line-spec : {M : Type 1} → statement M
 step-without-line-spec =
