@@ -17,13 +17,24 @@ pub(crate) fn enter(
     extras: Marks,
     addresses: &mut [u64],
     numbers: &mut [u64],
+    moments: &mut [u64],
     marks: &mut [u64],
     tape: &mut [u64],
     output: &mut [u64],
     sheet: &mut [u8],
 ) -> Ran {
     match run {
-        Run::Plain => enter_plain(form, words, text, machine, addresses, numbers, tape, output),
+        Run::Plain => enter_plain(
+            form,
+            words,
+            text,
+            machine,
+            addresses,
+            numbers,
+            moments,
+            tape,
+            output,
+        ),
         Run::Guarded => enter_guarded(
             form,
             words,
@@ -32,6 +43,7 @@ pub(crate) fn enter(
             extras,
             addresses,
             numbers,
+            moments,
             marks,
             tape,
             output,
@@ -43,6 +55,7 @@ pub(crate) fn enter(
             machine,
             addresses,
             numbers,
+            moments,
             tape,
             output,
             sheet,
@@ -57,19 +70,46 @@ fn enter_plain(
     machine: Machine,
     addresses: &mut [u64],
     numbers: &mut [u64],
+    moments: &mut [u64],
     tape: &mut [u64],
     output: &mut [u64],
 ) -> Ran {
     match form {
-        Form::Step => machine::lend_and_step(words, machine, addresses, numbers, tape, output),
+        Form::Step => machine::lend_and_step(
+            words,
+            machine,
+            addresses,
+            numbers,
+            moments,
+            tape,
+            output,
+        ),
         Form::Words(budget) => {
-            plain::run_words(words, budget, machine, addresses, numbers, tape, output)
+            plain::run_words(
+                words,
+                budget,
+                machine,
+                addresses,
+                numbers,
+                moments,
+                tape,
+                output,
+            )
         }
         Form::Text(budget) => {
-            plain::run_text(text, budget, machine, addresses, numbers, tape, output)
+            plain::run_text(
+                text,
+                budget,
+                machine,
+                addresses,
+                numbers,
+                moments,
+                tape,
+                output,
+            )
         }
         Form::BudgetText => {
-            plain::run_budget_text(text, machine, addresses, numbers, tape, output)
+            plain::run_budget_text(text, machine, addresses, numbers, moments, tape, output)
         }
     }
 }
@@ -82,6 +122,7 @@ fn enter_guarded(
     extras: Marks,
     addresses: &mut [u64],
     numbers: &mut [u64],
+    moments: &mut [u64],
     marks: &mut [u64],
     tape: &mut [u64],
     output: &mut [u64],
@@ -92,6 +133,7 @@ fn enter_guarded(
             GuardedMachine { machine, extras },
             addresses,
             numbers,
+            moments,
             marks,
             tape,
             output,
@@ -103,6 +145,7 @@ fn enter_guarded(
             extras,
             addresses,
             numbers,
+            moments,
             marks,
             tape,
             output,
@@ -114,6 +157,7 @@ fn enter_guarded(
             extras,
             addresses,
             numbers,
+            moments,
             marks,
             tape,
             output,
@@ -124,6 +168,7 @@ fn enter_guarded(
             extras,
             addresses,
             numbers,
+            moments,
             marks,
             tape,
             output,
@@ -138,12 +183,23 @@ fn enter_traced(
     machine: Machine,
     addresses: &mut [u64],
     numbers: &mut [u64],
+    moments: &mut [u64],
     tape: &mut [u64],
     output: &mut [u64],
     sheet: &mut [u8],
 ) -> Ran {
     match form {
-        Form::Step => traced::run_words(words, 1, machine, addresses, numbers, tape, output, sheet),
+        Form::Step => traced::run_words(
+            words,
+            1,
+            machine,
+            addresses,
+            numbers,
+            moments,
+            tape,
+            output,
+            sheet,
+        ),
         Form::Words(budget) => {
             traced::run_words(
                 words,
@@ -151,6 +207,7 @@ fn enter_traced(
                 machine,
                 addresses,
                 numbers,
+                moments,
                 tape,
                 output,
                 sheet,
@@ -163,13 +220,23 @@ fn enter_traced(
                 machine,
                 addresses,
                 numbers,
+                moments,
                 tape,
                 output,
                 sheet,
             )
         }
         Form::BudgetText => {
-            traced::run_budget_text(text, machine, addresses, numbers, tape, output, sheet)
+            traced::run_budget_text(
+                text,
+                machine,
+                addresses,
+                numbers,
+                moments,
+                tape,
+                output,
+                sheet,
+            )
         }
     }
 }

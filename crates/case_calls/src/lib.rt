@@ -40,6 +40,7 @@ pub fn call(run: Run, form: Form, text: &[u8], fields: &Fields, next: &mut Field
     };
     let mut addresses = [0u64; LONGEST];
     let mut numbers = [0u64; LONGEST];
+    let mut moments = [0u64; LONGEST];
     let mut marks = [0u64; LONGEST];
     let mut tape = [0u64; LONGEST];
     let mut output = [0u64; LONGEST];
@@ -51,6 +52,7 @@ pub fn call(run: Run, form: Form, text: &[u8], fields: &Fields, next: &mut Field
         &mut addresses,
     );
     let numbers_length = fill(fields, parts::NUMBERS, parts::NUMBERS_LENGTH, &mut numbers);
+    let moments_length = fill(fields, parts::MOMENTS, parts::MOMENTS_LENGTH, &mut moments);
     let marks_length = fill(fields, parts::MARKS, parts::MARKS_LENGTH, &mut marks);
     let tape_length = fill(fields, parts::TAPE, parts::TAPE_LENGTH, &mut tape);
     let output_length = fill(fields, parts::OUTPUT, parts::OUTPUT_LENGTH, &mut output);
@@ -64,12 +66,22 @@ pub fn call(run: Run, form: Form, text: &[u8], fields: &Fields, next: &mut Field
         extras,
         &mut addresses[..addresses_length],
         &mut numbers[..numbers_length],
+        &mut moments[..moments_length],
         &mut marks[..marks_length],
         &mut tape[..tape_length],
         &mut output[..output_length],
         &mut sheet[..sheet_length],
     );
-    put_buffers(&addresses, &numbers, &marks, &tape, &output, &sheet, next);
+    put_buffers(
+        &addresses,
+        &numbers,
+        &moments,
+        &marks,
+        &tape,
+        &output,
+        &sheet,
+        next,
+    );
     let left = ran.machine;
     put_machine(left, next);
     put_extras(run, ran.extras, next);

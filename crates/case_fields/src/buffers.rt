@@ -74,7 +74,7 @@ pub fn put_bytes(bytes: &[u8], from: usize, fields: &mut Fields) -> bool
     is_new
 }
 
-fn least(a: usize, b: usize) -> usize
+pub(crate) fn least(a: usize, b: usize) -> usize
     ensures { λ r. ⌜ (r ≤ a) × (r ≤ b) ⌝ }
 {
     if a < b {
@@ -99,6 +99,7 @@ pub(crate) fn put(numbers: &[u64], part: usize, fields: &mut Fields)
 pub fn put_buffers(
     addresses: &[u64; LONGEST],
     numbers: &[u64; LONGEST],
+    moments: &[u64; LONGEST],
     marks: &[u64; LONGEST],
     tape: &[u64; LONGEST],
     output: &[u64; LONGEST],
@@ -107,6 +108,7 @@ pub fn put_buffers(
 ) {
     put(addresses, parts::ADDRESSES, fields);
     put(numbers, parts::NUMBERS, fields);
+    put(moments, parts::MOMENTS, fields);
     put(marks, parts::MARKS, fields);
     put(tape, parts::TAPE, fields);
     put(output, parts::OUTPUT, fields);

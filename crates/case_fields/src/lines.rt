@@ -1,4 +1,5 @@
 // What each line gives.
+use crate::buffers::least;
 use crate::numbers::read_numbers;
 use crate::parts;
 use crate::parts::Fields;
@@ -11,8 +12,23 @@ pub fn clear(fields: &mut Fields) {
     read_numbers(b"state 0 0 fffffffe00000002 0 0 0 0", parts::STATE, fields);
     read_numbers(b"used 0 0 0", parts::USED, fields);
     read_numbers(b"buffers 800 800 800 1000 1000", parts::BUFFERS, fields);
+    read_numbers(b"moments", parts::MOMENTS, fields);
     read_numbers(b"text 0", parts::TEXT, fields);
     read_numbers(b"sheet 1001", parts::SHEET_LINE, fields);
+}
+
+// What all lines together leave open. The moments of used cells are 0 where no line gives them; moments have the capacity of numbers where
+// they have none of their own.
+pub fn complete(fields: &mut Fields) {
+    if fields[parts::BUFFERS] < 6 {
+        fields[parts::MOMENTS_LENGTH] = fields[parts::NUMBERS_LENGTH];
+    }
+    let cells = least(fields[parts::CELLS] as usize, parts::LONGEST);
+    let mut i = fields[parts::MOMENTS] as usize;
+    while i < cells {
+        fields[parts::MOMENTS + 1 + i] = 0;
+        i += 1;
+    }
 }
 
 // The second letter of a line, which is looked at where two words begin with the same.
@@ -40,7 +56,12 @@ pub fn read_line(letter: u8, line: &[u8], text: &mut [u8], fields: &mut Fields) 
         b'b' => read_numbers(line, parts::BUFFERS, fields),
         b'a' => read_numbers(line, parts::ADDRESSES, fields),
         b'n' => read_numbers(line, parts::NUMBERS, fields),
-        b'm' => read_numbers(line, parts::MARKS, fields),
+        b'm' => {
+            if second_letter(line) == b'o' {
+                return read_numbers(line, parts::MOMENTS, fields);
+            }
+            read_numbers(line, parts::MARKS, fields)
+        }
         b't' => read_numbers(line, parts::TAPE, fields),
         b'o' => read_numbers(line, parts::OUTPUT, fields),
         _ => false,

@@ -20,24 +20,26 @@ pub const ADDRESSES: usize = 5 * PART;
 
 pub const NUMBERS: usize = 6 * PART;
 
-pub const MARKS: usize = 7 * PART;
+pub const MOMENTS: usize = 7 * PART;
 
-pub const TAPE: usize = 8 * PART;
+pub const MARKS: usize = 8 * PART;
 
-pub const OUTPUT: usize = 9 * PART;
+pub const TAPE: usize = 9 * PART;
 
-pub const BUDGET: usize = 10 * PART;
+pub const OUTPUT: usize = 10 * PART;
 
-pub(crate) const ZEROS: usize = 11 * PART;
+pub const BUDGET: usize = 11 * PART;
 
-pub(crate) const TEXT: usize = 12 * PART;
+pub(crate) const ZEROS: usize = 12 * PART;
+
+pub(crate) const TEXT: usize = 13 * PART;
 
 // What the line `sheet` gives, and the bytes of the sheet, one to a place.
-pub(crate) const SHEET_LINE: usize = 13 * PART;
+pub(crate) const SHEET_LINE: usize = 14 * PART;
 
-pub const SHEET: usize = 14 * PART;
+pub const SHEET: usize = 15 * PART;
 
-pub const SIZE: usize = 15 * PART;
+pub const SIZE: usize = 16 * PART;
 
 pub type Fields = [u64; SIZE];
 
@@ -51,6 +53,9 @@ pub const PC: usize = STATE + 1;
 
 pub const CLK: usize = STATE + 2;
 
+// How many cells are used.
+pub(crate) const CELLS: usize = USED + 1;
+
 // How much of each buffer is lent.
 pub const ADDRESSES_LENGTH: usize = BUFFERS + 1;
 
@@ -61,6 +66,8 @@ pub const MARKS_LENGTH: usize = BUFFERS + 3;
 pub const TAPE_LENGTH: usize = BUFFERS + 4;
 
 pub const OUTPUT_LENGTH: usize = BUFFERS + 5;
+
+pub const MOMENTS_LENGTH: usize = BUFFERS + 6;
 
 pub const SHEET_LENGTH: usize = SHEET_LINE + 1;
 

@@ -4,6 +4,7 @@ use crate::show::show;
 use case_calls::Form;
 use case_calls::Run;
 use case_calls::call;
+use case_fields::lines::complete;
 use case_fields::numbers::read_numbers;
 use case_fields::parts;
 use case_fields::parts::Fields;
@@ -14,6 +15,7 @@ pub(crate) fn play_case(run: Run, line: &[u8], text: &[u8], fields: &mut Fields)
     if !read_numbers(line, parts::BUDGET, fields) {
         return false;
     }
+    complete(fields);
     let mut shown = *fields;
     let form = form_of(fields);
     play_steps(run, form, text, fields, &mut shown);

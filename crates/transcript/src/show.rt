@@ -38,6 +38,7 @@ pub(crate) fn show(ran: Ran, fields: &Fields, shown: &mut Fields) {
     show_changes(b"used", parts::USED, fields, shown);
     show_changes(b"addresses", parts::ADDRESSES, fields, shown);
     show_changes(b"numbers", parts::NUMBERS, fields, shown);
+    show_changes(b"moments", parts::MOMENTS, fields, shown);
     show_changes(b"marks", parts::MARKS, fields, shown);
     show_changes(b"tape", parts::TAPE, fields, shown);
     show_changes(b"output", parts::OUTPUT, fields, shown);
