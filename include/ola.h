@@ -2,7 +2,7 @@
  *
  * Link with libola.a, for x86-64, which `rt staticlib ola` writes to target/staticlib. The library allocates nothing, keeps nothing between
  * calls, reads and writes nothing but what it is lent, and uses at most 56 KB of stack, 40 KB where a program is given as words; a traced
- * run uses at most 152 KB, 136 KB from words. Calls on different records and buffers may run at the same time.
+ * run uses at most 168 KB, 152 KB from words. Calls on different records and buffers may run at the same time.
  *
  *     cc -Iinclude solve.c target/staticlib/libola.a
  *
@@ -18,8 +18,9 @@
  *     const char *text = "0000000000000064\n"                  // at most 100 steps
  *                        "00000002000088040000000000000005\n"  // r1 = 5
  *                        "000000000000000b\n";                 // END
- *     static uint64_t addresses[OLA_MOST_CELLS], numbers[OLA_MOST_CELLS], tape[OLA_MOST_VALUES], output[OLA_MOST_VALUES];
- *     const ola_buffers buffers = {addresses, numbers, NULL, OLA_MOST_CELLS, tape, OLA_MOST_VALUES, output, OLA_MOST_VALUES};
+ *     static uint64_t addresses[OLA_MOST_CELLS], numbers[OLA_MOST_CELLS], moments[OLA_MOST_CELLS];
+ *     static uint64_t tape[OLA_MOST_VALUES], output[OLA_MOST_VALUES];
+ *     const ola_buffers buffers = {addresses, numbers, moments, NULL, OLA_MOST_CELLS, tape, OLA_MOST_VALUES, output, OLA_MOST_VALUES};
  *     ola_machine machine = OLA_START;
  *     ola_answer answer;
  *     ola_run_budget_text_in((const uint8_t *)text, strlen(text), &machine, &buffers, &answer);
@@ -41,12 +42,12 @@ extern "C" {
 
 /* The version of the records below, and of the rules and the format in conformance/: one number, which conformance/VERSION has too. It
  * rises whenever a record, a rule or the format changes. */
-#define OLA_VERSION 5
+#define OLA_VERSION 6
 
 /* Limits. More is refused: OLA_BAD_LENGTH for a program, OLA_BAD_STATE for a state. */
 #define OLA_MOST_FRAMES 512          /* instructions of a program */
 #define OLA_MOST_BYTES 65536         /* of a program as text, with its budget line */
-#define OLA_MOST_CELLS 2048          /* capacity of addresses, numbers and marks */
+#define OLA_MOST_CELLS 2048          /* capacity of addresses, numbers, moments and marks */
 #define OLA_MOST_VALUES 4096         /* capacity of the tape, and of the output */
 #define OLA_CLOCK_END 1000000000000u /* clk is below it where a run starts */
 
@@ -57,7 +58,7 @@ typedef struct {
     uint64_t clk;             /* steps done so far; kilosteps are made from it */
     uint64_t psp;             /* what the operand PSP gives; never changed */
     uint64_t storage_addr[4]; /* the contract that runs, which calls others; never changed */
-    uint64_t cell_count;      /* how much of addresses, numbers and marks is used */
+    uint64_t cell_count;      /* how much of addresses, numbers, moments and marks is used */
     uint64_t tape_count;      /* how much of the tape is used */
     uint64_t output_count;    /* how much of the output is used: what a program that ended hands back */
 } ola_machine;
@@ -93,7 +94,7 @@ enum {
 enum {
     OLA_BAD_LENGTH = 1,        /* no frame, more than 512, or more than 65,536 bytes of text */
     OLA_MALFORMED_FRAME = 2,   /* a frame or line is malformed; `frame` is the earliest that is */
-    OLA_BAD_STATE = 3,         /* clk, a count, a capacity, an address, a number or a mark is not fit */
+    OLA_BAD_STATE = 3,         /* clk, a count, a capacity, an address, a number, a moment or a mark is not fit */
     OLA_NO_INSTRUCTION = 4,    /* none starts at pc */
     OLA_UNCOVERED_OPCODE = 5,  /* POSEIDON, SLOAD, SSTORE, SIGCHECK, EVENT */
     OLA_BAD_OPERAND = 6,       /* absent, PC, or not of the form that the opcode wants */
@@ -120,6 +121,8 @@ enum {
  * - budget_text: the same after a line of 16 digits, the budget, in the place of the parameter.
  * The buffers, each with its capacity in elements; their first elements are the used ones, as many as the machine's counts say:
  * - addresses and numbers, of equal capacity: the present cells, in rising order of their addresses;
+ * - moments, of the same capacity: when the cell at the same place got its number, that is clk before the step that last wrote it, even
+ *   where the number stayed the same. Cells that are handed in bring theirs, for example 0; a moment above clk is refused OLA_BAD_STATE;
  * - marks, of the same capacity, in guarded calls only: 1 where the cell at the same place is marked, else 0;
  * - tape, output.
  *
@@ -129,35 +132,37 @@ enum {
 /* The plain run. */
 void ola_run_words(const uint64_t *words, size_t words_length, uint64_t budget, ola_machine *machine,
                    uint64_t *addresses, size_t addresses_capacity, uint64_t *numbers, size_t numbers_capacity,
-                   uint64_t *tape, size_t tape_capacity, uint64_t *output, size_t output_capacity, ola_answer *answer);
+                   uint64_t *moments, size_t moments_capacity, uint64_t *tape, size_t tape_capacity,
+                   uint64_t *output, size_t output_capacity, ola_answer *answer);
 
 void ola_run_text(const uint8_t *text, size_t text_length, uint64_t budget, ola_machine *machine,
                   uint64_t *addresses, size_t addresses_capacity, uint64_t *numbers, size_t numbers_capacity,
-                  uint64_t *tape, size_t tape_capacity, uint64_t *output, size_t output_capacity, ola_answer *answer);
+                  uint64_t *moments, size_t moments_capacity, uint64_t *tape, size_t tape_capacity,
+                  uint64_t *output, size_t output_capacity, ola_answer *answer);
 
 void ola_run_budget_text(const uint8_t *text, size_t text_length, ola_machine *machine,
                          uint64_t *addresses, size_t addresses_capacity, uint64_t *numbers, size_t numbers_capacity,
-                         uint64_t *tape, size_t tape_capacity, uint64_t *output, size_t output_capacity,
-                         ola_answer *answer);
+                         uint64_t *moments, size_t moments_capacity, uint64_t *tape, size_t tape_capacity,
+                         uint64_t *output, size_t output_capacity, ola_answer *answer);
 
 /* The guarded run: the plain run, which also keeps the marks, and stops where a marked number would be used at a sink. */
 void ola_guarded_run_words(const uint64_t *words, size_t words_length, uint64_t budget, ola_machine *machine,
                            ola_marks *extras, uint64_t *addresses, size_t addresses_capacity,
-                           uint64_t *numbers, size_t numbers_capacity, uint64_t *marks, size_t marks_capacity,
-                           uint64_t *tape, size_t tape_capacity, uint64_t *output, size_t output_capacity,
-                           ola_answer *answer);
+                           uint64_t *numbers, size_t numbers_capacity, uint64_t *moments, size_t moments_capacity,
+                           uint64_t *marks, size_t marks_capacity, uint64_t *tape, size_t tape_capacity,
+                           uint64_t *output, size_t output_capacity, ola_answer *answer);
 
 void ola_guarded_run_text(const uint8_t *text, size_t text_length, uint64_t budget, ola_machine *machine,
                           ola_marks *extras, uint64_t *addresses, size_t addresses_capacity,
-                          uint64_t *numbers, size_t numbers_capacity, uint64_t *marks, size_t marks_capacity,
-                          uint64_t *tape, size_t tape_capacity, uint64_t *output, size_t output_capacity,
-                          ola_answer *answer);
+                          uint64_t *numbers, size_t numbers_capacity, uint64_t *moments, size_t moments_capacity,
+                          uint64_t *marks, size_t marks_capacity, uint64_t *tape, size_t tape_capacity,
+                          uint64_t *output, size_t output_capacity, ola_answer *answer);
 
 void ola_guarded_run_budget_text(const uint8_t *text, size_t text_length, ola_machine *machine, ola_marks *extras,
                                  uint64_t *addresses, size_t addresses_capacity,
-                                 uint64_t *numbers, size_t numbers_capacity, uint64_t *marks, size_t marks_capacity,
-                                 uint64_t *tape, size_t tape_capacity, uint64_t *output, size_t output_capacity,
-                                 ola_answer *answer);
+                                 uint64_t *numbers, size_t numbers_capacity, uint64_t *moments, size_t moments_capacity,
+                                 uint64_t *marks, size_t marks_capacity, uint64_t *tape, size_t tape_capacity,
+                                 uint64_t *output, size_t output_capacity, ola_answer *answer);
 
 /* The traced run: the plain run, which also writes a sheet, from its start at every call. `sheet_capacity` is in bytes and has no limit.
  * Each accepted step writes a line of OLA_LINE_BYTES bytes, that of OLA_CLOCK_END_REACHED too: after a call the sheet's first
@@ -178,62 +183,72 @@ void ola_guarded_run_budget_text(const uint8_t *text, size_t text_length, ola_ma
 
 void ola_traced_run_words(const uint64_t *words, size_t words_length, uint64_t budget, ola_machine *machine,
                           uint64_t *addresses, size_t addresses_capacity, uint64_t *numbers, size_t numbers_capacity,
-                          uint64_t *tape, size_t tape_capacity, uint64_t *output, size_t output_capacity,
-                          uint8_t *sheet, size_t sheet_capacity, ola_answer *answer);
+                          uint64_t *moments, size_t moments_capacity, uint64_t *tape, size_t tape_capacity,
+                          uint64_t *output, size_t output_capacity, uint8_t *sheet, size_t sheet_capacity,
+                          ola_answer *answer);
 
 void ola_traced_run_text(const uint8_t *text, size_t text_length, uint64_t budget, ola_machine *machine,
                          uint64_t *addresses, size_t addresses_capacity, uint64_t *numbers, size_t numbers_capacity,
-                         uint64_t *tape, size_t tape_capacity, uint64_t *output, size_t output_capacity,
-                         uint8_t *sheet, size_t sheet_capacity, ola_answer *answer);
+                         uint64_t *moments, size_t moments_capacity, uint64_t *tape, size_t tape_capacity,
+                         uint64_t *output, size_t output_capacity, uint8_t *sheet, size_t sheet_capacity,
+                         ola_answer *answer);
 
 void ola_traced_run_budget_text(const uint8_t *text, size_t text_length, ola_machine *machine,
                                 uint64_t *addresses, size_t addresses_capacity,
-                                uint64_t *numbers, size_t numbers_capacity,
+                                uint64_t *numbers, size_t numbers_capacity, uint64_t *moments, size_t moments_capacity,
                                 uint64_t *tape, size_t tape_capacity, uint64_t *output, size_t output_capacity,
                                 uint8_t *sheet, size_t sheet_capacity, ola_answer *answer);
 
 /* One step: a run with a budget of 1. */
 void ola_step_words(const uint64_t *words, size_t words_length, ola_machine *machine,
                     uint64_t *addresses, size_t addresses_capacity, uint64_t *numbers, size_t numbers_capacity,
-                    uint64_t *tape, size_t tape_capacity, uint64_t *output, size_t output_capacity, ola_answer *answer);
+                    uint64_t *moments, size_t moments_capacity, uint64_t *tape, size_t tape_capacity,
+                    uint64_t *output, size_t output_capacity, ola_answer *answer);
 
 void ola_guarded_step_words(const uint64_t *words, size_t words_length, ola_machine *machine, ola_marks *extras,
                             uint64_t *addresses, size_t addresses_capacity, uint64_t *numbers, size_t numbers_capacity,
-                            uint64_t *marks, size_t marks_capacity, uint64_t *tape, size_t tape_capacity,
-                            uint64_t *output, size_t output_capacity, ola_answer *answer);
+                            uint64_t *moments, size_t moments_capacity, uint64_t *marks, size_t marks_capacity,
+                            uint64_t *tape, size_t tape_capacity, uint64_t *output, size_t output_capacity,
+                            ola_answer *answer);
 
 /* The entry check alone: what a run would be refused with before its first step (1, 2 or 3), or OLA_PAUSED after 0 steps where it would
  * begin. Nothing but the answer is written. */
 void ola_check_words(const uint64_t *words, size_t words_length, const ola_machine *machine,
                      const uint64_t *addresses, size_t addresses_capacity,
-                     const uint64_t *numbers, size_t numbers_capacity, const uint64_t *tape, size_t tape_capacity,
-                     const uint64_t *output, size_t output_capacity, ola_answer *answer);
+                     const uint64_t *numbers, size_t numbers_capacity, const uint64_t *moments, size_t moments_capacity,
+                     const uint64_t *tape, size_t tape_capacity, const uint64_t *output, size_t output_capacity,
+                     ola_answer *answer);
 
 void ola_check_text(const uint8_t *text, size_t text_length, const ola_machine *machine,
                     const uint64_t *addresses, size_t addresses_capacity,
-                    const uint64_t *numbers, size_t numbers_capacity, const uint64_t *tape, size_t tape_capacity,
-                    const uint64_t *output, size_t output_capacity, ola_answer *answer);
+                    const uint64_t *numbers, size_t numbers_capacity, const uint64_t *moments, size_t moments_capacity,
+                    const uint64_t *tape, size_t tape_capacity, const uint64_t *output, size_t output_capacity,
+                    ola_answer *answer);
 
 void ola_check_budget_text(const uint8_t *text, size_t text_length, const ola_machine *machine,
                            const uint64_t *addresses, size_t addresses_capacity,
-                           const uint64_t *numbers, size_t numbers_capacity, const uint64_t *tape, size_t tape_capacity,
+                           const uint64_t *numbers, size_t numbers_capacity,
+                           const uint64_t *moments, size_t moments_capacity, const uint64_t *tape, size_t tape_capacity,
                            const uint64_t *output, size_t output_capacity, ola_answer *answer);
 
 void ola_guarded_check_words(const uint64_t *words, size_t words_length, const ola_machine *machine,
                              const ola_marks *extras, const uint64_t *addresses, size_t addresses_capacity,
                              const uint64_t *numbers, size_t numbers_capacity,
+                             const uint64_t *moments, size_t moments_capacity,
                              const uint64_t *marks, size_t marks_capacity, const uint64_t *tape, size_t tape_capacity,
                              const uint64_t *output, size_t output_capacity, ola_answer *answer);
 
 void ola_guarded_check_text(const uint8_t *text, size_t text_length, const ola_machine *machine,
                             const ola_marks *extras, const uint64_t *addresses, size_t addresses_capacity,
                             const uint64_t *numbers, size_t numbers_capacity,
+                            const uint64_t *moments, size_t moments_capacity,
                             const uint64_t *marks, size_t marks_capacity, const uint64_t *tape, size_t tape_capacity,
                             const uint64_t *output, size_t output_capacity, ola_answer *answer);
 
 void ola_guarded_check_budget_text(const uint8_t *text, size_t text_length, const ola_machine *machine,
                                    const ola_marks *extras, const uint64_t *addresses, size_t addresses_capacity,
                                    const uint64_t *numbers, size_t numbers_capacity,
+                                   const uint64_t *moments, size_t moments_capacity,
                                    const uint64_t *marks, size_t marks_capacity,
                                    const uint64_t *tape, size_t tape_capacity,
                                    const uint64_t *output, size_t output_capacity, ola_answer *answer);
@@ -245,8 +260,9 @@ uint64_t ola_kilosteps(uint64_t clk);
 typedef struct {
     uint64_t *addresses;
     uint64_t *numbers;
+    uint64_t *moments;
     uint64_t *marks;      /* for guarded calls; other calls do not look at it, and it may be null */
-    size_t cell_capacity; /* of addresses, of numbers and of marks */
+    size_t cell_capacity; /* of addresses, of numbers, of moments and of marks */
     uint64_t *tape;
     size_t tape_capacity;
     uint64_t *output;
@@ -258,128 +274,136 @@ typedef struct {
 static inline void ola_run_words_in(const uint64_t *words, size_t words_length, uint64_t budget, ola_machine *machine,
                                     const ola_buffers *buffers, ola_answer *answer) {
     ola_run_words(words, words_length, budget, machine, buffers->addresses, buffers->cell_capacity,
-                  buffers->numbers, buffers->cell_capacity, buffers->tape, buffers->tape_capacity,
-                  buffers->output, buffers->output_capacity, answer);
+                  buffers->numbers, buffers->cell_capacity, buffers->moments, buffers->cell_capacity,
+                  buffers->tape, buffers->tape_capacity, buffers->output, buffers->output_capacity, answer);
 }
 
 static inline void ola_run_text_in(const uint8_t *text, size_t text_length, uint64_t budget, ola_machine *machine,
                                    const ola_buffers *buffers, ola_answer *answer) {
     ola_run_text(text, text_length, budget, machine, buffers->addresses, buffers->cell_capacity,
-                 buffers->numbers, buffers->cell_capacity, buffers->tape, buffers->tape_capacity,
-                 buffers->output, buffers->output_capacity, answer);
+                 buffers->numbers, buffers->cell_capacity, buffers->moments, buffers->cell_capacity,
+                 buffers->tape, buffers->tape_capacity, buffers->output, buffers->output_capacity, answer);
 }
 
 static inline void ola_run_budget_text_in(const uint8_t *text, size_t text_length, ola_machine *machine,
                                           const ola_buffers *buffers, ola_answer *answer) {
     ola_run_budget_text(text, text_length, machine, buffers->addresses, buffers->cell_capacity,
-                        buffers->numbers, buffers->cell_capacity, buffers->tape, buffers->tape_capacity,
-                        buffers->output, buffers->output_capacity, answer);
+                        buffers->numbers, buffers->cell_capacity, buffers->moments, buffers->cell_capacity,
+                        buffers->tape, buffers->tape_capacity, buffers->output, buffers->output_capacity, answer);
 }
 
 static inline void ola_guarded_run_words_in(const uint64_t *words, size_t words_length, uint64_t budget,
                                             ola_machine *machine, ola_marks *extras, const ola_buffers *buffers,
                                             ola_answer *answer) {
     ola_guarded_run_words(words, words_length, budget, machine, extras, buffers->addresses, buffers->cell_capacity,
-                          buffers->numbers, buffers->cell_capacity, buffers->marks, buffers->cell_capacity,
-                          buffers->tape, buffers->tape_capacity, buffers->output, buffers->output_capacity, answer);
+                          buffers->numbers, buffers->cell_capacity, buffers->moments, buffers->cell_capacity,
+                          buffers->marks, buffers->cell_capacity, buffers->tape, buffers->tape_capacity,
+                          buffers->output, buffers->output_capacity, answer);
 }
 
 static inline void ola_guarded_run_text_in(const uint8_t *text, size_t text_length, uint64_t budget,
                                            ola_machine *machine, ola_marks *extras, const ola_buffers *buffers,
                                            ola_answer *answer) {
     ola_guarded_run_text(text, text_length, budget, machine, extras, buffers->addresses, buffers->cell_capacity,
-                         buffers->numbers, buffers->cell_capacity, buffers->marks, buffers->cell_capacity,
-                         buffers->tape, buffers->tape_capacity, buffers->output, buffers->output_capacity, answer);
+                         buffers->numbers, buffers->cell_capacity, buffers->moments, buffers->cell_capacity,
+                         buffers->marks, buffers->cell_capacity, buffers->tape, buffers->tape_capacity,
+                         buffers->output, buffers->output_capacity, answer);
 }
 
 static inline void ola_guarded_run_budget_text_in(const uint8_t *text, size_t text_length, ola_machine *machine,
                                                   ola_marks *extras, const ola_buffers *buffers, ola_answer *answer) {
     ola_guarded_run_budget_text(text, text_length, machine, extras, buffers->addresses, buffers->cell_capacity,
-                                buffers->numbers, buffers->cell_capacity, buffers->marks, buffers->cell_capacity,
-                                buffers->tape, buffers->tape_capacity, buffers->output, buffers->output_capacity,
-                                answer);
+                                buffers->numbers, buffers->cell_capacity, buffers->moments, buffers->cell_capacity,
+                                buffers->marks, buffers->cell_capacity, buffers->tape, buffers->tape_capacity,
+                                buffers->output, buffers->output_capacity, answer);
 }
 
 static inline void ola_traced_run_words_in(const uint64_t *words, size_t words_length, uint64_t budget,
                                            ola_machine *machine, const ola_buffers *buffers,
                                            uint8_t *sheet, size_t sheet_capacity, ola_answer *answer) {
     ola_traced_run_words(words, words_length, budget, machine, buffers->addresses, buffers->cell_capacity,
-                         buffers->numbers, buffers->cell_capacity, buffers->tape, buffers->tape_capacity,
-                         buffers->output, buffers->output_capacity, sheet, sheet_capacity, answer);
+                         buffers->numbers, buffers->cell_capacity, buffers->moments, buffers->cell_capacity,
+                         buffers->tape, buffers->tape_capacity, buffers->output, buffers->output_capacity,
+                         sheet, sheet_capacity, answer);
 }
 
 static inline void ola_traced_run_text_in(const uint8_t *text, size_t text_length, uint64_t budget,
                                           ola_machine *machine, const ola_buffers *buffers,
                                           uint8_t *sheet, size_t sheet_capacity, ola_answer *answer) {
     ola_traced_run_text(text, text_length, budget, machine, buffers->addresses, buffers->cell_capacity,
-                        buffers->numbers, buffers->cell_capacity, buffers->tape, buffers->tape_capacity,
-                        buffers->output, buffers->output_capacity, sheet, sheet_capacity, answer);
+                        buffers->numbers, buffers->cell_capacity, buffers->moments, buffers->cell_capacity,
+                        buffers->tape, buffers->tape_capacity, buffers->output, buffers->output_capacity,
+                        sheet, sheet_capacity, answer);
 }
 
 static inline void ola_traced_run_budget_text_in(const uint8_t *text, size_t text_length, ola_machine *machine,
                                                  const ola_buffers *buffers, uint8_t *sheet, size_t sheet_capacity,
                                                  ola_answer *answer) {
     ola_traced_run_budget_text(text, text_length, machine, buffers->addresses, buffers->cell_capacity,
-                               buffers->numbers, buffers->cell_capacity, buffers->tape, buffers->tape_capacity,
-                               buffers->output, buffers->output_capacity, sheet, sheet_capacity, answer);
+                               buffers->numbers, buffers->cell_capacity, buffers->moments, buffers->cell_capacity,
+                               buffers->tape, buffers->tape_capacity, buffers->output, buffers->output_capacity,
+                               sheet, sheet_capacity, answer);
 }
 
 static inline void ola_step_words_in(const uint64_t *words, size_t words_length, ola_machine *machine,
                                      const ola_buffers *buffers, ola_answer *answer) {
     ola_step_words(words, words_length, machine, buffers->addresses, buffers->cell_capacity,
-                   buffers->numbers, buffers->cell_capacity, buffers->tape, buffers->tape_capacity,
-                   buffers->output, buffers->output_capacity, answer);
+                   buffers->numbers, buffers->cell_capacity, buffers->moments, buffers->cell_capacity,
+                   buffers->tape, buffers->tape_capacity, buffers->output, buffers->output_capacity, answer);
 }
 
 static inline void ola_guarded_step_words_in(const uint64_t *words, size_t words_length, ola_machine *machine,
                                              ola_marks *extras, const ola_buffers *buffers, ola_answer *answer) {
     ola_guarded_step_words(words, words_length, machine, extras, buffers->addresses, buffers->cell_capacity,
-                           buffers->numbers, buffers->cell_capacity, buffers->marks, buffers->cell_capacity,
-                           buffers->tape, buffers->tape_capacity, buffers->output, buffers->output_capacity, answer);
+                           buffers->numbers, buffers->cell_capacity, buffers->moments, buffers->cell_capacity,
+                           buffers->marks, buffers->cell_capacity, buffers->tape, buffers->tape_capacity,
+                           buffers->output, buffers->output_capacity, answer);
 }
 
 static inline void ola_check_words_in(const uint64_t *words, size_t words_length, const ola_machine *machine,
                                       const ola_buffers *buffers, ola_answer *answer) {
     ola_check_words(words, words_length, machine, buffers->addresses, buffers->cell_capacity,
-                    buffers->numbers, buffers->cell_capacity, buffers->tape, buffers->tape_capacity,
-                    buffers->output, buffers->output_capacity, answer);
+                    buffers->numbers, buffers->cell_capacity, buffers->moments, buffers->cell_capacity,
+                    buffers->tape, buffers->tape_capacity, buffers->output, buffers->output_capacity, answer);
 }
 
 static inline void ola_check_text_in(const uint8_t *text, size_t text_length, const ola_machine *machine,
                                      const ola_buffers *buffers, ola_answer *answer) {
     ola_check_text(text, text_length, machine, buffers->addresses, buffers->cell_capacity,
-                   buffers->numbers, buffers->cell_capacity, buffers->tape, buffers->tape_capacity,
-                   buffers->output, buffers->output_capacity, answer);
+                   buffers->numbers, buffers->cell_capacity, buffers->moments, buffers->cell_capacity,
+                   buffers->tape, buffers->tape_capacity, buffers->output, buffers->output_capacity, answer);
 }
 
 static inline void ola_check_budget_text_in(const uint8_t *text, size_t text_length, const ola_machine *machine,
                                             const ola_buffers *buffers, ola_answer *answer) {
     ola_check_budget_text(text, text_length, machine, buffers->addresses, buffers->cell_capacity,
-                          buffers->numbers, buffers->cell_capacity, buffers->tape, buffers->tape_capacity,
-                          buffers->output, buffers->output_capacity, answer);
+                          buffers->numbers, buffers->cell_capacity, buffers->moments, buffers->cell_capacity,
+                          buffers->tape, buffers->tape_capacity, buffers->output, buffers->output_capacity, answer);
 }
 
 static inline void ola_guarded_check_words_in(const uint64_t *words, size_t words_length, const ola_machine *machine,
                                               const ola_marks *extras, const ola_buffers *buffers, ola_answer *answer) {
     ola_guarded_check_words(words, words_length, machine, extras, buffers->addresses, buffers->cell_capacity,
-                            buffers->numbers, buffers->cell_capacity, buffers->marks, buffers->cell_capacity,
-                            buffers->tape, buffers->tape_capacity, buffers->output, buffers->output_capacity, answer);
+                            buffers->numbers, buffers->cell_capacity, buffers->moments, buffers->cell_capacity,
+                            buffers->marks, buffers->cell_capacity, buffers->tape, buffers->tape_capacity,
+                            buffers->output, buffers->output_capacity, answer);
 }
 
 static inline void ola_guarded_check_text_in(const uint8_t *text, size_t text_length, const ola_machine *machine,
                                              const ola_marks *extras, const ola_buffers *buffers, ola_answer *answer) {
     ola_guarded_check_text(text, text_length, machine, extras, buffers->addresses, buffers->cell_capacity,
-                           buffers->numbers, buffers->cell_capacity, buffers->marks, buffers->cell_capacity,
-                           buffers->tape, buffers->tape_capacity, buffers->output, buffers->output_capacity, answer);
+                           buffers->numbers, buffers->cell_capacity, buffers->moments, buffers->cell_capacity,
+                           buffers->marks, buffers->cell_capacity, buffers->tape, buffers->tape_capacity,
+                           buffers->output, buffers->output_capacity, answer);
 }
 
 static inline void ola_guarded_check_budget_text_in(const uint8_t *text, size_t text_length, const ola_machine *machine,
                                                     const ola_marks *extras, const ola_buffers *buffers,
                                                     ola_answer *answer) {
     ola_guarded_check_budget_text(text, text_length, machine, extras, buffers->addresses, buffers->cell_capacity,
-                                  buffers->numbers, buffers->cell_capacity, buffers->marks, buffers->cell_capacity,
-                                  buffers->tape, buffers->tape_capacity, buffers->output, buffers->output_capacity,
-                                  answer);
+                                  buffers->numbers, buffers->cell_capacity, buffers->moments, buffers->cell_capacity,
+                                  buffers->marks, buffers->cell_capacity, buffers->tape, buffers->tape_capacity,
+                                  buffers->output, buffers->output_capacity, answer);
 }
 
 #ifdef __cplusplus

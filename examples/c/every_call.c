@@ -12,7 +12,7 @@ enum { CELLS = 4, TAPE = 9, OUTPUT = 3, SHEET = 3 * OLA_LINE_BYTES + 5 };
 typedef struct {
     ola_machine machine;
     ola_marks extras;
-    uint64_t addresses[CELLS], numbers[CELLS], marks[CELLS], tape[TAPE], output[OUTPUT];
+    uint64_t addresses[CELLS], numbers[CELLS], moments[CELLS], marks[CELLS], tape[TAPE], output[OUTPUT];
     uint8_t sheet[SHEET];
     ola_answer answer;
 } lent;
@@ -32,13 +32,14 @@ static const uint8_t *const text = (const uint8_t *)lines + 17;
 static const size_t text_length = sizeof lines - 1 - 17;
 
 /* Starts: one that is fit, and others with one buffer each that is not. */
-enum { FIT, CELL_COUNT, TAPE_COUNT, OUTPUT_COUNT, ADDRESS, NUMBER, MARK, STARTS };
+enum { FIT, CELL_COUNT, TAPE_COUNT, OUTPUT_COUNT, ADDRESS, NUMBER, MOMENT, MARK, STARTS };
 
 static lent start_of(int which) {
-    lent start = {{{0}, 0, 0, 0xfffffffe00000002u, {0}, 2, 4, 1},
+    lent start = {{{0}, 0, 6, 0xfffffffe00000002u, {0}, 2, 4, 1},
                   {1 << 7},
                   {10, 20, 0, 0},
                   {9, 8, 0, 0},
+                  {2, 6, 0, 0},
                   {1, 0, 0, 0},
                   {5, 6, 7, 8, 0, 0, 0, 0, 0},
                   {4, 0, 0},
@@ -49,12 +50,14 @@ static lent start_of(int which) {
     if (which == OUTPUT_COUNT) start.machine.output_count = OUTPUT + 1;
     if (which == ADDRESS) start.addresses[1] = 10;
     if (which == NUMBER) start.numbers[1] = UINT64_MAX;
+    if (which == MOMENT) start.moments[1] = 7;
     if (which == MARK) start.marks[1] = 2;
     return start;
 }
 
 static ola_buffers buffers_of(lent *l) {
-    const ola_buffers buffers = {l->addresses, l->numbers, l->marks, CELLS, l->tape, TAPE, l->output, OUTPUT};
+    const ola_buffers buffers = {l->addresses, l->numbers, l->moments, l->marks, CELLS,
+                                 l->tape,      TAPE,       l->output,  OUTPUT};
     return buffers;
 }
 
@@ -72,34 +75,34 @@ static void compare(const char *function, int which, const lent *one, const lent
     expect(!memcmp(one, other, sizeof *one), function, which, "with its buffers in one struct it does something else");
 }
 
-#define PLAIN(function, ...)                                                                          \
-    for (int which = FIT; which < STARTS; which++) {                                                  \
-        lent one = start_of(which), other = start_of(which);                                          \
-        const ola_buffers buffers = buffers_of(&other);                                               \
-        function(__VA_ARGS__, &one.machine, one.addresses, CELLS, one.numbers, CELLS, one.tape, TAPE, \
-                 one.output, OUTPUT, &one.answer);                                                    \
-        function##_in(__VA_ARGS__, &other.machine, &buffers, &other.answer);                          \
-        compare(#function, which, &one, &other);                                                      \
+#define PLAIN(function, ...)                                                                              \
+    for (int which = FIT; which < STARTS; which++) {                                                      \
+        lent one = start_of(which), other = start_of(which);                                              \
+        const ola_buffers buffers = buffers_of(&other);                                                   \
+        function(__VA_ARGS__, &one.machine, one.addresses, CELLS, one.numbers, CELLS, one.moments, CELLS, \
+                 one.tape, TAPE, one.output, OUTPUT, &one.answer);                                        \
+        function##_in(__VA_ARGS__, &other.machine, &buffers, &other.answer);                              \
+        compare(#function, which, &one, &other);                                                          \
     }
 
-#define TRACED(function, ...)                                                                         \
-    for (int which = FIT; which < STARTS; which++) {                                                  \
-        lent one = start_of(which), other = start_of(which);                                          \
-        const ola_buffers buffers = buffers_of(&other);                                               \
-        function(__VA_ARGS__, &one.machine, one.addresses, CELLS, one.numbers, CELLS, one.tape, TAPE, \
-                 one.output, OUTPUT, one.sheet, SHEET, &one.answer);                                  \
-        function##_in(__VA_ARGS__, &other.machine, &buffers, other.sheet, SHEET, &other.answer);      \
-        compare(#function, which, &one, &other);                                                      \
+#define TRACED(function, ...)                                                                             \
+    for (int which = FIT; which < STARTS; which++) {                                                      \
+        lent one = start_of(which), other = start_of(which);                                              \
+        const ola_buffers buffers = buffers_of(&other);                                                   \
+        function(__VA_ARGS__, &one.machine, one.addresses, CELLS, one.numbers, CELLS, one.moments, CELLS, \
+                 one.tape, TAPE, one.output, OUTPUT, one.sheet, SHEET, &one.answer);                      \
+        function##_in(__VA_ARGS__, &other.machine, &buffers, other.sheet, SHEET, &other.answer);          \
+        compare(#function, which, &one, &other);                                                          \
     }
 
-#define GUARDED(function, ...)                                                                     \
-    for (int which = FIT; which < STARTS; which++) {                                               \
-        lent one = start_of(which), other = start_of(which);                                       \
-        const ola_buffers buffers = buffers_of(&other);                                            \
-        function(__VA_ARGS__, &one.machine, &one.extras, one.addresses, CELLS, one.numbers, CELLS, \
-                 one.marks, CELLS, one.tape, TAPE, one.output, OUTPUT, &one.answer);               \
-        function##_in(__VA_ARGS__, &other.machine, &other.extras, &buffers, &other.answer);        \
-        compare(#function, which, &one, &other);                                                   \
+#define GUARDED(function, ...)                                                                           \
+    for (int which = FIT; which < STARTS; which++) {                                                     \
+        lent one = start_of(which), other = start_of(which);                                             \
+        const ola_buffers buffers = buffers_of(&other);                                                  \
+        function(__VA_ARGS__, &one.machine, &one.extras, one.addresses, CELLS, one.numbers, CELLS,       \
+                 one.moments, CELLS, one.marks, CELLS, one.tape, TAPE, one.output, OUTPUT, &one.answer); \
+        function##_in(__VA_ARGS__, &other.machine, &other.extras, &buffers, &other.answer);              \
+        compare(#function, which, &one, &other);                                                         \
     }
 
 int main(void) {

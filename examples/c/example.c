@@ -8,11 +8,12 @@
 #include "ola.h"
 
 /* What every solve below is lent; the machine's counts say how much of it is used. */
-static uint64_t addresses[OLA_MOST_CELLS], numbers[OLA_MOST_CELLS], marks[OLA_MOST_CELLS];
+static uint64_t addresses[OLA_MOST_CELLS], numbers[OLA_MOST_CELLS], moments[OLA_MOST_CELLS], marks[OLA_MOST_CELLS];
 static uint64_t tape[OLA_MOST_VALUES], output[OLA_MOST_VALUES];
 static const ola_buffers buffers = {
     .addresses = addresses,
     .numbers = numbers,
+    .moments = moments,
     .marks = marks,
     .cell_capacity = OLA_MOST_CELLS,
     .tape = tape,
@@ -63,6 +64,9 @@ static void in_one_call(void) {
     print_answer("in one call", &answer, &machine);
     for (uint64_t i = 0; i < machine.output_count; i++) {
         printf("output: %" PRIu64 "\n", output[i]);
+    }
+    for (uint64_t i = 0; i < machine.cell_count; i++) {
+        printf("cell %" PRIu64 ": %" PRIu64 ", written at clk %" PRIu64 "\n", addresses[i], numbers[i], moments[i]);
     }
     printf("kilosteps: %" PRIu64 "\n", ola_kilosteps(machine.clk));
 }

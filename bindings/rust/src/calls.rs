@@ -5,10 +5,11 @@ use crate::records::{Answer, Buffers, Lent, Machine, Marks, Program};
 
 impl<B: AsMut<[u64]>> Buffers<B> {
     /// In the order of C's parameters.
-    fn to_write(&mut self) -> [&mut [u64]; 5] {
+    fn to_write(&mut self) -> [&mut [u64]; 6] {
         [
             self.addresses.as_mut(),
             self.numbers.as_mut(),
+            self.moments.as_mut(),
             self.marks.as_mut(),
             self.tape.as_mut(),
             self.output.as_mut(),
@@ -18,10 +19,11 @@ impl<B: AsMut<[u64]>> Buffers<B> {
 
 impl<B: AsRef<[u64]>> Buffers<B> {
     /// Likewise.
-    fn to_read(&self) -> [&[u64]; 5] {
+    fn to_read(&self) -> [&[u64]; 6] {
         [
             self.addresses.as_ref(),
             self.numbers.as_ref(),
+            self.moments.as_ref(),
             self.marks.as_ref(),
             self.tape.as_ref(),
             self.output.as_ref(),
@@ -55,16 +57,16 @@ pub fn run<B: AsMut<[u64]>>(
     buffers: &mut Buffers<B>,
     answer: &mut Answer,
 ) {
-    let [addresses, numbers, _, tape, output] = buffers.to_write();
+    let [addresses, numbers, moments, _, tape, output] = buffers.to_write();
     match program {
         Program::Words { words, budget } => {
-            call!(ola_run_words(words; budget, machine; addresses, numbers, tape, output; answer), as_mut_ptr)
+            call!(ola_run_words(words; budget, machine; addresses, numbers, moments, tape, output; answer), as_mut_ptr)
         }
         Program::Text { text, budget } => {
-            call!(ola_run_text(text; budget, machine; addresses, numbers, tape, output; answer), as_mut_ptr)
+            call!(ola_run_text(text; budget, machine; addresses, numbers, moments, tape, output; answer), as_mut_ptr)
         }
         Program::BudgetText { text } => {
-            call!(ola_run_budget_text(text; machine; addresses, numbers, tape, output; answer), as_mut_ptr)
+            call!(ola_run_budget_text(text; machine; addresses, numbers, moments, tape, output; answer), as_mut_ptr)
         }
     }
 }
@@ -77,16 +79,17 @@ pub fn guarded_run<B: AsMut<[u64]>>(
     buffers: &mut Buffers<B>,
     answer: &mut Answer,
 ) {
-    let [addresses, numbers, marks, tape, output] = buffers.to_write();
+    let [addresses, numbers, moments, marks, tape, output] = buffers.to_write();
     match program {
         Program::Words { words, budget } => {
-            call!(ola_guarded_run_words(words; budget, machine, extras; addresses, numbers, marks, tape, output; answer), as_mut_ptr)
+            call!(ola_guarded_run_words(words; budget, machine, extras; addresses, numbers, moments, marks, tape, output; answer),
+                as_mut_ptr)
         }
         Program::Text { text, budget } => {
-            call!(ola_guarded_run_text(text; budget, machine, extras; addresses, numbers, marks, tape, output; answer), as_mut_ptr)
+            call!(ola_guarded_run_text(text; budget, machine, extras; addresses, numbers, moments, marks, tape, output; answer), as_mut_ptr)
         }
         Program::BudgetText { text } => {
-            call!(ola_guarded_run_budget_text(text; machine, extras; addresses, numbers, marks, tape, output; answer), as_mut_ptr)
+            call!(ola_guarded_run_budget_text(text; machine, extras; addresses, numbers, moments, marks, tape, output; answer), as_mut_ptr)
         }
     }
 }
@@ -101,16 +104,16 @@ pub fn traced_run<B: AsMut<[u64]>>(
     sheet: &mut [u8],
     answer: &mut Answer,
 ) {
-    let [addresses, numbers, _, tape, output] = buffers.to_write();
+    let [addresses, numbers, moments, _, tape, output] = buffers.to_write();
     match program {
         Program::Words { words, budget } => {
-            call!(ola_traced_run_words(words; budget, machine; addresses, numbers, tape, output, sheet; answer), as_mut_ptr)
+            call!(ola_traced_run_words(words; budget, machine; addresses, numbers, moments, tape, output, sheet; answer), as_mut_ptr)
         }
         Program::Text { text, budget } => {
-            call!(ola_traced_run_text(text; budget, machine; addresses, numbers, tape, output, sheet; answer), as_mut_ptr)
+            call!(ola_traced_run_text(text; budget, machine; addresses, numbers, moments, tape, output, sheet; answer), as_mut_ptr)
         }
         Program::BudgetText { text } => {
-            call!(ola_traced_run_budget_text(text; machine; addresses, numbers, tape, output, sheet; answer), as_mut_ptr)
+            call!(ola_traced_run_budget_text(text; machine; addresses, numbers, moments, tape, output, sheet; answer), as_mut_ptr)
         }
     }
 }
@@ -122,8 +125,8 @@ pub fn step<B: AsMut<[u64]>>(
     buffers: &mut Buffers<B>,
     answer: &mut Answer,
 ) {
-    let [addresses, numbers, _, tape, output] = buffers.to_write();
-    call!(ola_step_words(words; machine; addresses, numbers, tape, output; answer), as_mut_ptr)
+    let [addresses, numbers, moments, _, tape, output] = buffers.to_write();
+    call!(ola_step_words(words; machine; addresses, numbers, moments, tape, output; answer), as_mut_ptr)
 }
 
 /// One guarded step.
@@ -134,8 +137,8 @@ pub fn guarded_step<B: AsMut<[u64]>>(
     buffers: &mut Buffers<B>,
     answer: &mut Answer,
 ) {
-    let [addresses, numbers, marks, tape, output] = buffers.to_write();
-    call!(ola_guarded_step_words(words; machine, extras; addresses, numbers, marks, tape, output; answer), as_mut_ptr)
+    let [addresses, numbers, moments, marks, tape, output] = buffers.to_write();
+    call!(ola_guarded_step_words(words; machine, extras; addresses, numbers, moments, marks, tape, output; answer), as_mut_ptr)
 }
 
 /// What a plain or a traced run would be refused with before its first step; outcome e3 after 0 steps where it would begin. The budget does
@@ -146,16 +149,16 @@ pub fn check<B: AsRef<[u64]>>(
     buffers: &Buffers<B>,
     answer: &mut Answer,
 ) {
-    let [addresses, numbers, _, tape, output] = buffers.to_read();
+    let [addresses, numbers, moments, _, tape, output] = buffers.to_read();
     match program {
         Program::Words { words, .. } => {
-            call!(ola_check_words(words; machine; addresses, numbers, tape, output; answer), as_ptr)
+            call!(ola_check_words(words; machine; addresses, numbers, moments, tape, output; answer), as_ptr)
         }
         Program::Text { text, .. } => {
-            call!(ola_check_text(text; machine; addresses, numbers, tape, output; answer), as_ptr)
+            call!(ola_check_text(text; machine; addresses, numbers, moments, tape, output; answer), as_ptr)
         }
         Program::BudgetText { text } => {
-            call!(ola_check_budget_text(text; machine; addresses, numbers, tape, output; answer), as_ptr)
+            call!(ola_check_budget_text(text; machine; addresses, numbers, moments, tape, output; answer), as_ptr)
         }
     }
 }
@@ -168,16 +171,16 @@ pub fn guarded_check<B: AsRef<[u64]>>(
     buffers: &Buffers<B>,
     answer: &mut Answer,
 ) {
-    let [addresses, numbers, marks, tape, output] = buffers.to_read();
+    let [addresses, numbers, moments, marks, tape, output] = buffers.to_read();
     match program {
         Program::Words { words, .. } => {
-            call!(ola_guarded_check_words(words; machine, extras; addresses, numbers, marks, tape, output; answer), as_ptr)
+            call!(ola_guarded_check_words(words; machine, extras; addresses, numbers, moments, marks, tape, output; answer), as_ptr)
         }
         Program::Text { text, .. } => {
-            call!(ola_guarded_check_text(text; machine, extras; addresses, numbers, marks, tape, output; answer), as_ptr)
+            call!(ola_guarded_check_text(text; machine, extras; addresses, numbers, moments, marks, tape, output; answer), as_ptr)
         }
         Program::BudgetText { text } => {
-            call!(ola_guarded_check_budget_text(text; machine, extras; addresses, numbers, marks, tape, output; answer), as_ptr)
+            call!(ola_guarded_check_budget_text(text; machine, extras; addresses, numbers, moments, marks, tape, output; answer), as_ptr)
         }
     }
 }

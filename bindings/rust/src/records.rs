@@ -4,7 +4,7 @@
 pub const MOST_FRAMES: usize = 512;
 pub const MOST_BYTES: usize = 65_536;
 
-/// The greatest capacities that are not refused: of addresses, numbers and marks; of the tape, and of the output.
+/// The greatest capacities that are not refused: of addresses, numbers, moments and marks; of the tape, and of the output.
 pub const MOST_CELLS: usize = 2048;
 pub const MOST_VALUES: usize = 4096;
 
@@ -117,6 +117,8 @@ pub enum Program<'a> {
 pub struct Buffers<B = Vec<u64>> {
     pub addresses: B,
     pub numbers: B,
+    /// When each cell got its number: clk before the step that last wrote it.
+    pub moments: B,
     /// For guarded calls; other calls do not look at it.
     pub marks: B,
     pub tape: B,
@@ -129,6 +131,7 @@ impl Default for Buffers {
         Buffers {
             addresses: vec![0; MOST_CELLS],
             numbers: vec![0; MOST_CELLS],
+            moments: vec![0; MOST_CELLS],
             marks: vec![0; MOST_CELLS],
             tape: vec![0; MOST_VALUES],
             output: vec![0; MOST_VALUES],

@@ -66,6 +66,12 @@ fn in_one_call() {
     for value in lent.used_output() {
         println!("output: {value}");
     }
+    let buffers = &lent.buffers;
+    for place in 0..lent.machine.cell_count as usize {
+        let (address, number) = (buffers.addresses[place], buffers.numbers[place]);
+        let moment = buffers.moments[place];
+        println!("cell {address}: {number}, written at clk {moment}");
+    }
     println!("kilosteps: {}", kilosteps(lent.machine.clk));
 }
 
