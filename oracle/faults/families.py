@@ -7,6 +7,7 @@ CODE = "oracle/model/src/code.rs"
 DECIDE = "oracle/model/src/decide.rs"
 ENTRY = "oracle/model/src/entry.rs"
 FRAMES = "oracle/model/src/frames.rs"
+MACHINE = "oracle/model/src/machine.rs"
 READING = "oracle/model/src/reading.rs"
 TRACED = "oracle/model/src/traced.rs"
 
@@ -77,6 +78,10 @@ SINKS = (
 )
 
 
+# The opcodes that write cells, and those that only read some.
+WRITERS = "CALL MSTORE TLOAD".split()
+READERS = "RET MLOAD TSTORE SCCALL".split()
+
 PLACES = ["op0", "op1", "dst"]
 
 # The places that an opcode's line shows.
@@ -92,7 +97,7 @@ SHOWN = {
 def all_slips():
     programs = [*lengths(), *line_ends(), *digits(), *first_words(), *selectors()]
     steps = [*values(), *kinds(), *registers(), *uncovered(), *sinks(), *factors(), *products()]
-    return [*programs, *steps, *shown(), *shown_bare(), *short_sheets()]
+    return [*programs, *steps, *written(), *moments_of_reads(), *shown(), *shown_bare(), *short_sheets()]
 
 
 def lengths():
@@ -259,6 +264,42 @@ def mark_of_mul(name, mark):
     old = "                    product(a, b)?"
     new = ["                    let product = product(a, b)?;", f"                    Number {{ marked: {mark}, ..product }}"]
     return Edit(name, ["blanking"], DECIDE, [old], new)
+
+
+def written():
+    """One opcode that stores gives a present or a new cell another moment."""
+    old = "        self.carry_out(change);"
+    for opcode in WRITERS:
+        for name, condition, moment in (
+            ("keeps_the_moment_of_a_present_cell", "", "old.moment"),
+            ("keeps_the_moment_where_the_number_stays", "old.number == held.number && ", "old.moment"),
+            ("gives_a_present_cell_clk_after_the_step", "*held != *old && ", "held.moment + 1"),
+        ):
+            is_changed = f"{condition}frame.opcode == Opcode::{opcode}"
+            change = f"if let Some(old) = before.get(address) {{ if {is_changed} {{ held.moment = {moment} }} }}"
+            yield Edit(f"{opcode}_{name}", ["moments"], MACHINE, [old], after_a_step(change))
+        for name, moment in (("0", "0"), ("clk_after_the_step", "held.moment + 1")):
+            change = f"if frame.opcode == Opcode::{opcode} && !before.contains_key(address) {{ held.moment = {moment} }}"
+            yield Edit(f"{opcode}_gives_a_new_cell_{name}", ["moments"], MACHINE, [old], after_a_step(change))
+
+
+def moments_of_reads():
+    """One opcode that only reads gives the cells that it reads its moment."""
+    old = "        self.carry_out(change);"
+    for opcode in READERS:
+        is_read = "self.touched.is_some_and(|read| (read.start..read.start + read.length).contains(address))"
+        change = f"if frame.opcode == Opcode::{opcode} && {is_read} {{ held.moment = self.state.clk - 1 }}"
+        yield Edit(f"{opcode}_gives_what_it_reads_its_moment", ["moments"], MACHINE, [old], after_a_step(change))
+
+
+def after_a_step(change):
+    """Other moments after a step: `before` has the cells of before it."""
+    return [
+        "        use crate::opcodes::Opcode;",
+        "        let before = self.state.cells.clone();",
+        "        self.carry_out(change);",
+        f"        for (address, held) in &mut self.state.cells {{ let _ = &before; {change} }}",
+    ]
 
 
 def shown():

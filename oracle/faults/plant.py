@@ -66,6 +66,8 @@ REQUESTS = [
     "lines of the sheet",
     "CALL's further read",
     "traced calls",
+    "moments",
+    "moments at entry",
 ]
 
 BLANKING_RULES = [

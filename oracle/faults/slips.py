@@ -45,10 +45,10 @@ RUN = re.compile(r"\n(?=plain|guarded|traced)")
 # What must have slips, in the words of the lines `for:`.
 TOPICS = [
     *["frames", "bare words", "text", "budget line", "digits of frames", "digits of the budget line", "length"],
-    *["entry order", "state", "marks at entry"],
+    *["entry order", "state", "moments at entry", "marks at entry"],
     *["order of a step", "operand kinds", "operands below p", "offset and factor", "marks of operands", "fetching"],
     *[f"opcode {opcode}" for opcode in families.COVERED],
-    *["reading", "spans", "storing", "tape", "capacity", "budget", "clock", "sinks", "marks", "blanking"],
+    *["reading", "spans", "storing", "moments", "tape", "capacity", "budget", "clock", "sinks", "marks", "blanking"],
     *["what is left", "answers", "kilosteps", "plain calls"],
     *["traced calls", "lines of the sheet", "refusal 19", "CALL's further read"],
 ]

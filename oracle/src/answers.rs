@@ -6,6 +6,7 @@ use model::frames::encode;
 use model::state::State;
 
 use crate::case::Case;
+use crate::moments::without_moments;
 use crate::outcome::Outcome;
 use crate::rows::{row_of, words_of};
 use crate::stepper::{Mode, Stepper};
@@ -42,7 +43,7 @@ pub const FORMAT: &str = "\
 
 /// The case as it is handed in.
 pub fn write_case(text: &mut String, number: usize, case: &Case) {
-    let start = &case.start;
+    let start = without_moments(&case.start);
     let words = encode(&case.program);
     let program: Vec<String> = words.iter().map(|word| format!("{word:016x}")).collect();
     writeln!(text, "case {number} {}", case.name).unwrap();
@@ -60,7 +61,7 @@ pub fn write_case(text: &mut String, number: usize, case: &Case) {
 /// The steps that the source does and what it answers.
 pub fn write_answer(text: &mut String, case: &Case, mode: Mode) {
     let mut stepper = Stepper::new(&case.program, &case.start, mode);
-    let mut before = case.start.clone();
+    let mut before = without_moments(&case.start);
     let mut steps = 0;
     while steps < case.budget {
         let answer = stepper.step();
@@ -94,7 +95,7 @@ fn step_kind(outcome: &Outcome) -> &'static str {
     }
 }
 
-fn write_change(text: &mut String, before: &State, after: &State) {
+fn write_change(text: &mut String, before: &State<u64>, after: &State<u64>) {
     line(text, "", &[after.pc, after.clk]);
     // The registers stand on the same line.
     text.pop();

@@ -2,7 +2,7 @@
 
 use model::frames::{Frame, Operand};
 use model::opcodes::Opcode;
-use model::state::State;
+use model::state::{Held, State};
 
 #[derive(Debug, Clone)]
 pub struct Case {
@@ -48,11 +48,19 @@ impl Case {
         self
     }
 
-    /// Present cells from `start` on.
+    /// Present cells from `start` on, with moment 0.
     pub fn cells(mut self, start: u64, numbers: &[u64]) -> Case {
-        self.start
-            .cells
-            .extend((start..).zip(numbers.iter().copied()));
+        let held = numbers.iter().map(|number| since_0(*number));
+        self.start.cells.extend((start..).zip(held));
+        self
+    }
+
+    /// Other moments for the cells that are present, in rising order of their addresses.
+    pub fn moments(mut self, moments: &[u64]) -> Case {
+        assert_eq!(moments.len(), self.start.cells.len());
+        for (held, moment) in self.start.cells.values_mut().zip(moments) {
+            held.moment = *moment;
+        }
         self
     }
 
@@ -65,6 +73,11 @@ impl Case {
         self.start.output = values.to_vec();
         self
     }
+}
+
+/// What a cell holds since clk was 0.
+pub fn since_0(number: u64) -> Held {
+    Held { number, moment: 0 }
 }
 
 pub fn frame(opcode: Opcode, op0: Operand, op1: Operand, dst: Operand) -> Frame {

@@ -8,6 +8,8 @@ pub mod differences;
 pub mod domain;
 pub mod first_list;
 pub mod instructions;
+pub mod moments;
+pub mod moments_list;
 pub mod outcome;
 pub mod replay;
 pub mod rows;

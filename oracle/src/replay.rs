@@ -1,8 +1,9 @@
-//! The cases of `first_list` and `traced_list` as the program `replay` reads them, and what it must write for them, found by running the
-//! source.
+//! The cases of `first_list`, `traced_list` and `moments_list` as the program `replay` reads them, and what it must write for them, found
+//! by running the source.
 //!
-//! The format is that of conformance/FORMAT.md. The lines of a sheet are the source's rows. After a refusal the source's clk, registers,
-//! tape and output are written; pc and cells are those of before the refused step, as document 01 has it.
+//! The format is that of conformance/FORMAT.md. The lines of a sheet are the source's rows. A cell's moment is the clk before the last step
+//! whose changes or trace have a write to it. After a refusal the source's clk, registers, tape and output are written; pc and cells are
+//! those of before the refused step, as document 01 has it.
 
 use std::fmt::Write;
 
@@ -14,6 +15,8 @@ use ola_core::trace::exe_trace::ExeTraceStepDiff;
 
 use crate::case::Case;
 use crate::first_list::{self, SEED};
+use crate::moments::{with_cells, Moments};
+use crate::moments_list;
 use crate::outcome::{Answer, Outcome};
 use crate::rows::{line_of, row_of, words_of};
 use crate::stepper::{Mode, Stepper};
@@ -27,10 +30,11 @@ pub fn input() -> String {
     let mut text = format!(
         "\
 # The replayed vectors. Their stored answers are those of `OlaContractExecutor::resume` (Sin7Y/olavm 74fb50ee61), built for release: of
-# `plain` in its mode without traces, of `traced` in a mode with traces, whose rows are the lines of the sheet. Both files are made by
+# `plain` in its mode without traces, of `traced` in a mode with traces, whose rows are the lines of the sheet. A cell's moment is the clk
+# before the last step whose changes or trace write the cell. Both files are made by
 #   cargo run --release --offline --manifest-path oracle/Cargo.toml -- replay crates/replay
 # The format is described in conformance/FORMAT.md. Cases come first from document 01 and by hand, then from SplitMix64 with the seed
-# {SEED:016x}. All are in the domain that document 01 compares.
+# {SEED:016x}; last are those of moments, by hand. All are in the domain that document 01 compares.
 "
     );
     for (number, (case, mode)) in (1..).zip(all_cases()) {
@@ -54,7 +58,10 @@ pub fn all_cases() -> impl Iterator<Item = (Case, Mode)> {
     let plain = first_list::cases().into_iter();
     let traced = traced_list::cases().into_iter();
     let plain = plain.map(|case| (case, Mode::Plain));
-    plain.chain(traced.map(|case| (case, Mode::Traced)))
+    let traced = traced.map(|case| (case, Mode::Traced));
+    let both = |case: Case| [(case.clone(), Mode::Plain), (case, Mode::Traced)];
+    let moments = moments_list::cases().into_iter().flat_map(both);
+    plain.chain(traced).chain(moments)
 }
 
 fn write_head(text: &mut String, number: usize, case: &Case, mode: Mode) {
@@ -78,7 +85,11 @@ fn write_case(text: &mut String, number: usize, case: &Case, mode: Mode) {
     write_head(text, number, case, mode);
     write_line(text, "words", &encode(&case.program));
     for (part, default) in parts(&case.start).iter().zip(default) {
-        if part.values != default.values {
+        let is_default = match part.name {
+            "moments" => part.values.iter().all(|moment| *moment == 0),
+            _ => part.values == default.values,
+        };
+        if !is_default {
             write_line(text, part.name, &part.values);
         }
     }
@@ -92,13 +103,14 @@ fn write_answers(text: &mut String, number: usize, case: &Case, mode: Mode) {
 
     let mut shown = Shown::new(&case.start);
     let mut stepper = Stepper::new(&case.program, &case.start, mode);
+    let mut moments = Moments::new(&case.start);
     let mut before = case.start.clone();
     let mut done = 0;
     while done < case.budget {
         let traced = stepper.traces().len();
-        let answer = stepper.step();
+        let answer = moments.step(&mut stepper);
         done += 1;
-        let after = left(&answer, &before, stepper.state());
+        let after = left(&answer, &before, stepper.state(), &moments);
         shown.write_call(text, &answer, &after);
         shown.write_sheet(text, &stepper.traces()[traced..]);
         before = after;
@@ -109,21 +121,25 @@ fn write_answers(text: &mut String, number: usize, case: &Case, mode: Mode) {
 
     let mut stepper = Stepper::new(&case.program, &case.start, mode);
     let answer = stepper.run(case.budget);
-    let after = left(&answer, &before, stepper.state());
+    if mode == Mode::Traced {
+        // Without traces one call does not tell when it wrote: the moments are those of the single steps.
+        moments = Moments::new(&case.start);
+        moments.note(stepper.traces());
+    }
+    let after = left(&answer, &before, stepper.state(), &moments);
     text.push_str("run ");
     shown.write_call(text, &answer, &after);
     shown.write_sheet(text, stepper.traces());
 }
 
 /// What a call leaves: after a refused step, pc and cells of before it.
-fn left(answer: &Answer, before: &State, after: State) -> State {
+fn left(answer: &Answer, before: &State, after: State<u64>, moments: &Moments) -> State {
     match &answer.outcome {
         Outcome::Failed(failure) if failure.refusal() != Some(17) => State {
             pc: before.pc,
-            cells: before.cells.clone(),
-            ..after
+            ..with_cells(after, before.cells.clone())
         },
-        _ => after,
+        _ => moments.of(after),
     }
 }
 
@@ -163,10 +179,11 @@ struct Part {
     values: Vec<u64>,
 }
 
-fn parts(state: &State) -> [Part; 7] {
+fn parts(state: &State) -> [Part; 8] {
     let part = |name, values| Part { name, values };
     let [c0, c1, c2, c3] = state.storage_address;
     let counts = [state.cells.len(), state.tape.len(), state.output.len()];
+    let held = || state.cells.values();
     [
         part("registers", state.registers.to_vec()),
         part(
@@ -175,7 +192,8 @@ fn parts(state: &State) -> [Part; 7] {
         ),
         part("used", counts.map(|count| count as u64).to_vec()),
         part("addresses", state.cells.keys().copied().collect()),
-        part("numbers", state.cells.values().copied().collect()),
+        part("numbers", held().map(|held| held.number).collect()),
+        part("moments", held().map(|held| held.moment).collect()),
         part("tape", state.tape.clone()),
         part("output", state.output.clone()),
     ]
@@ -183,14 +201,15 @@ fn parts(state: &State) -> [Part; 7] {
 
 /// What each part held when it was last written, the buffers in their whole capacity, the sheet as far as it has lines.
 struct Shown {
-    parts: [Part; 7],
+    parts: [Part; 8],
     sheet: Vec<Vec<u8>>,
 }
 
 impl Shown {
     fn new(start: &State) -> Shown {
         let mut parts = parts(start);
-        let lengths = [0, 0, 0, MOST_CELLS, MOST_CELLS, MOST_VALUES, MOST_VALUES];
+        let (cells, values) = (MOST_CELLS, MOST_VALUES);
+        let lengths = [0, 0, 0, cells, cells, cells, values, values];
         for (part, length) in parts.iter_mut().zip(lengths) {
             part.values.resize(length.max(part.values.len()), UNUSED);
         }

@@ -19,6 +19,7 @@ use ola_executor::tx_exe_manager::TxEventManager;
 use ola_executor::{Executor, Fields, Resumed, CLOCK_LIMIT};
 
 use crate::instructions::instruction_of;
+use crate::moments::without_moments;
 use crate::outcome::{Answer, Failure, Outcome};
 
 #[derive(Debug, Clone, Copy, PartialEq, Eq)]
@@ -49,6 +50,7 @@ pub struct Stepper {
 
 impl Stepper {
     pub fn new(program: &[Frame], start: &State, mode: Mode) -> Stepper {
+        let start = without_moments(start);
         let mut tape = OlaTape::default();
         tape.batch_write(&start.tape);
         let executor = Executor::with(Fields {
@@ -64,7 +66,7 @@ impl Stepper {
             registers: start.registers,
             memory: memory_with(&start.cells),
             instructions: instructions_by_pc(program),
-            output: start.output.clone(),
+            output: start.output,
         });
         Stepper {
             mode,
@@ -142,8 +144,17 @@ impl Stepper {
         Answer { steps, outcome }
     }
 
-    /// The cells that the source put into the prophet region are among those of the state.
-    pub fn state(&self) -> State {
+    /// The cells that the next step writes where it is accepted, as a step without traces changes them. A step that is not compared may
+    /// panic here.
+    pub fn next_writes(&mut self) -> Vec<u64> {
+        self.executor.set_mode(Mode::Plain.of_source());
+        let writes = self.executor.next_writes(&mut self.tape);
+        self.executor.set_mode(self.mode.of_source());
+        writes.unwrap_or_default()
+    }
+
+    /// The cells that the source put into the prophet region are among those of the state. It keeps no moments.
+    pub fn state(&self) -> State<u64> {
         State {
             registers: *self.executor.registers(),
             pc: self.executor.pc(),

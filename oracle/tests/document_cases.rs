@@ -9,14 +9,14 @@ use oracle::outcome::{Answer, Outcome};
 use oracle::stepper::{Mode, Stepper};
 
 /// What the source does with the case of this name.
-fn run(name: &str) -> (Answer, State) {
+fn run(name: &str) -> (Answer, State<u64>) {
     let case = cases().into_iter().find(|case| case.name == name).unwrap();
     let mut stepper = Stepper::new(&case.program, &case.start, Mode::Plain);
     let answer = stepper.run(case.budget);
     (answer, stepper.state())
 }
 
-fn state_after_one_step(name: &str) -> State {
+fn state_after_one_step(name: &str) -> State<u64> {
     let (answer, state) = run(name);
     assert_eq!((answer.steps, answer.outcome), (1, Outcome::Paused));
     state

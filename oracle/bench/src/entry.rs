@@ -3,6 +3,7 @@
 use model::frames::encode;
 use model::lending::{lend, GREATEST};
 use model::state::State;
+use oracle::case::since_0;
 
 use crate::contenders::{Calls, GUARDED, PLAIN, YARDSTICK};
 use crate::programs;
@@ -50,7 +51,9 @@ pub fn table() -> String {
 
 pub fn calls(frames: usize, cells: u64) -> Calls {
     let start = State {
-        cells: (0..cells).map(|address| (address, address)).collect(),
+        cells: (0..cells)
+            .map(|address| (address, since_0(address)))
+            .collect(),
         ..State::default()
     };
     Calls {

@@ -7,7 +7,7 @@ use model::lending::{lend, GREATEST};
 use model::numbers::MOST_VALUES;
 use model::opcodes::Opcode::{ADD, MLOAD, MSTORE, TLOAD, TSTORE};
 use model::state::State;
-use oracle::case::frame;
+use oracle::case::{frame, since_0};
 use oracle::splitmix::SplitMix64;
 use oracle::stepper::{Mode, Stepper};
 use Operand::{Absent, Immediate, Register};
@@ -288,7 +288,7 @@ fn tape_stores(values: u64) -> Calls {
 fn with_cells(first: u64, cells: u64, distance: u64) -> State {
     State {
         cells: (0..cells)
-            .map(|number| (first + number * distance, number))
+            .map(|number| (first + number * distance, since_0(number)))
             .collect(),
         ..State::default()
     }

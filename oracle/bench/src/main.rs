@@ -27,7 +27,7 @@ usage: bench [--only PART] [--plot FILE] [--before FILE]
   --only PART    only one of the parts: steps, instructions, entry, text, interface, growth, stack; instructions, which need valgrind,
                  are counted only where this asks for them
   --plot FILE    writes the part growth into FILE too, as a picture (SVG)
-  --before FILE  an older build of the library, as a shared object: the part text measures it beside the present one
+  --before FILE  an older build of the library, of the same version, as a shared object: the part text measures it beside the present one
   --help         prints this
 ";
 

@@ -4,7 +4,7 @@ use model::code::length_of;
 use model::frames::{Frame, Operand};
 use model::opcodes::Opcode::{self, *};
 use model::state::State;
-use oracle::case::frame;
+use oracle::case::{frame, since_0};
 use oracle::splitmix::SplitMix64;
 use Operand::{Absent, Immediate, Register};
 
@@ -109,7 +109,7 @@ fn memory() -> Workload {
         ],
     );
     memory.start.cells = (0..MEMORY_CELLS)
-        .map(|address| (address, address))
+        .map(|address| (address, since_0(address)))
         .collect();
     memory.marked_registers = 1 << 2;
     memory.marked_cells = true;
@@ -128,7 +128,7 @@ fn call() -> Workload {
         ],
     );
     call.start.registers[9] = 100;
-    call.start.cells = [(98, 100), (99, 0)].into();
+    call.start.cells = [(98, since_0(100)), (99, since_0(0))].into();
     call.marked_registers = 1 << 8;
     call
 }
@@ -163,7 +163,7 @@ fn sparse() -> Workload {
         ],
     );
     sparse.start.cells = (0..MEMORY_CELLS)
-        .map(|number| (number * DISTANCE + 7, number))
+        .map(|number| (number * DISTANCE + 7, since_0(number)))
         .collect();
     sparse.marked_registers = 1 << 2;
     sparse.marked_cells = true;
@@ -199,8 +199,10 @@ fn generated() -> Vec<Workload> {
         .map(|_| {
             let mut mix = workload("generated", 25.0, 1.3, generated_program(&mut random));
             mix.start.registers = [3, 5, 7, 11, 13, 17, 19, 23, 29, 250];
-            mix.start.cells = (0..256).map(|address| (address, address)).collect();
-            mix.start.cells.insert(248, 250);
+            mix.start.cells = (0..256)
+                .map(|address| (address, since_0(address)))
+                .collect();
+            mix.start.cells.insert(248, since_0(250));
             mix.start.tape = (0..64).collect();
             mix.marked_registers = 1 << 8;
             mix

@@ -43,6 +43,19 @@ const OUTSIDE: [(NotCompared, &str); 7] = [
     (NotCompared::LongSpan, "a span above 4,096"),
 ];
 
+/// The opcodes that write cells.
+const WRITERS: [Opcode; 3] = [Opcode::CALL, Opcode::MSTORE, Opcode::TLOAD];
+
+/// What a written cell held before.
+#[derive(Debug, Clone, Copy, PartialEq, Eq)]
+pub enum Before {
+    Nothing,
+    AnotherNumber,
+    SameNumber,
+}
+
+const BEFORE: [&str; 3] = ["nothing", "another number", "the same number"];
+
 /// One compared step.
 pub struct Stepped {
     /// None where no instruction starts at pc.
@@ -71,6 +84,7 @@ pub struct StepCounts {
     outcomes: [u64; 4],
     outside: OutsideCounts,
     edges: EdgeCounts,
+    pub written: WrittenCounts,
 }
 
 /// An operand that an opcode may have: its place and its kind.
@@ -119,6 +133,36 @@ impl KindCounts {
             combinations.len(),
             grouped(rarest)
         ));
+    }
+}
+
+/// Cells written whose moments were compared, by opcode and by what they held before.
+#[derive(Default)]
+pub struct WrittenCounts([[u64; BEFORE.len()]; WRITERS.len()]);
+
+impl WrittenCounts {
+    pub fn count(&mut self, opcode: Opcode, written: &[Before]) {
+        for before in written {
+            let writer = WRITERS.iter().position(|writer| *writer == opcode);
+            self.0[writer.expect("no other opcode writes")][*before as usize] += 1;
+        }
+    }
+
+    pub fn missing(&self) -> Vec<String> {
+        let mut missing = vec![];
+        for (opcode, counts) in WRITERS.iter().zip(self.0) {
+            let unmet = BEFORE.iter().zip(counts).filter(|(_, count)| *count == 0);
+            missing.extend(unmet.map(|(before, _)| format!("{opcode:?} over {before}")));
+        }
+        missing
+    }
+
+    pub fn put(&self, text: &mut String) {
+        let title = "Moments of cells written over";
+        head(text, &[&[title][..], &BEFORE].concat());
+        for (opcode, counts) in WRITERS.iter().zip(self.0) {
+            row(text, &format!("{opcode:?}"), &counts.map(grouped));
+        }
     }
 }
 
@@ -197,6 +241,7 @@ impl StepCounts {
         }
         missing.extend(self.kinds.missing(&compared_combinations()));
         missing.extend(self.edges.missing());
+        missing.extend(self.written.missing());
         all_met(&missing)
     }
 
@@ -208,6 +253,7 @@ impl StepCounts {
         let kinds = &self.kinds;
         kinds.put(&mut text, "Operand", &combinations, "are compared");
         self.edges.put(&mut text);
+        self.written.put(&mut text);
         text
     }
 

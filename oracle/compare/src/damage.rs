@@ -12,7 +12,8 @@ pub fn plain_state(random: &mut SplitMix64, lent: &mut Lent) {
         machine, buffers, ..
     } = lent;
     let used = (machine.cell_count as usize).min(buffers.addresses.len());
-    match random.below(14) {
+    let clk = machine.clk;
+    match random.below(17) {
         0 => machine.clk = random.pick(&[CLOCK_LIMIT - 1, CLOCK_LIMIT, u64::MAX]),
         1 => machine.cell_count = bad_count(random, &buffers.addresses),
         2 => machine.tape_count = bad_count(random, &buffers.tape),
@@ -24,6 +25,7 @@ pub fn plain_state(random: &mut SplitMix64, lent: &mut Lent) {
             for buffer in [
                 &mut buffers.addresses,
                 &mut buffers.numbers,
+                &mut buffers.moments,
                 &mut buffers.marks,
             ] {
                 buffer.resize(capacity, 0);
@@ -43,11 +45,16 @@ pub fn plain_state(random: &mut SplitMix64, lent: &mut Lent) {
             buffers.addresses[used - 1] = random.pick(&[HEAP_END - 1, HEAP_END, P, u64::MAX]);
         }
         12 => set_one(random, &mut buffers.numbers, &[P, P + 1, u64::MAX]),
+        13 => resize(random, &mut buffers.moments),
+        14 => set_one(random, &mut buffers.moments, &[clk, clk + 1, u64::MAX]),
+        // Younger than some cells.
+        15 => machine.clk = clk.saturating_sub(1),
         // Beyond the counts anything may stand.
         _ => {
             for buffer in [
                 &mut buffers.addresses,
                 &mut buffers.numbers,
+                &mut buffers.moments,
                 &mut buffers.marks,
             ] {
                 let start = used.min(buffer.len());

@@ -38,6 +38,7 @@ pub fn difference(expected: &Lent, given: &Lent) -> Option<String> {
     [
         ("addresses", &expected.addresses, &given.addresses),
         ("numbers", &expected.numbers, &given.numbers),
+        ("moments", &expected.moments, &given.moments),
         ("marks", &expected.marks, &given.marks),
         ("tape", &expected.tape, &given.tape),
         ("output", &expected.output, &given.output),

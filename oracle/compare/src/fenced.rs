@@ -20,8 +20,8 @@ pub enum Call {
 /// The buffers in one piece of memory, the sheet and the records in others, each between fences.
 pub struct Fenced {
     memory: Vec<u64>,
-    /// Addresses, numbers, marks, tape, output.
-    ranges: [Range<usize>; 5],
+    /// Addresses, numbers, moments, marks, tape, output.
+    ranges: [Range<usize>; 6],
     /// With its fences.
     sheet: Vec<u8>,
     records: Records,
@@ -44,6 +44,7 @@ impl Fenced {
         let buffers = [
             &lent.buffers.addresses,
             &lent.buffers.numbers,
+            &lent.buffers.moments,
             &lent.buffers.marks,
             &lent.buffers.tape,
             &lent.buffers.output,
@@ -74,13 +75,14 @@ impl Fenced {
 
     pub fn call(&mut self, program: Program, kind: Call) -> Answer {
         let base = self.memory.as_mut_ptr();
-        let [addresses, numbers, marks, tape, output] = self.ranges.clone().map(|range| {
+        let [addresses, numbers, moments, marks, tape, output] = self.ranges.clone().map(|range| {
             // SAFETY: the ranges are inside `memory` and do not overlap.
             unsafe { std::slice::from_raw_parts_mut(base.add(range.start), range.len()) }
         });
         let mut buffers = Buffers {
             addresses,
             numbers,
+            moments,
             marks,
             tape,
             output,
@@ -110,7 +112,7 @@ impl Fenced {
 
     /// What the buffers hold now.
     pub fn lent(&self) -> Lent {
-        let [addresses, numbers, marks, tape, output] =
+        let [addresses, numbers, moments, marks, tape, output] =
             self.ranges.clone().map(|range| self.memory[range].to_vec());
         Lent {
             machine: self.records.machine,
@@ -118,6 +120,7 @@ impl Fenced {
             buffers: Buffers {
                 addresses,
                 numbers,
+                moments,
                 marks,
                 tape,
                 output,

@@ -9,7 +9,7 @@ use model::frames::Frame;
 use model::numbers::{MOST_CELLS, MOST_VALUES};
 use model::opcodes::OPCODES;
 use model::state::State;
-use oracle::case::Case;
+use oracle::case::{since_0, Case};
 use oracle::first_list::operand_kinds::operand_of_kind;
 use oracle::first_list::programs::{natural_frame, random_program, random_start, starts_of};
 use oracle::first_list::values;
@@ -84,7 +84,8 @@ fn crowd(random: &mut SplitMix64, start: &mut State) {
         0 => {
             let more = (MOST_CELLS - free).saturating_sub(start.cells.len());
             let addresses = (CROWD_START..).take(more);
-            start.cells.extend(addresses.map(|address| (address, 7)));
+            let cells = addresses.map(|address| (address, since_0(7)));
+            start.cells.extend(cells);
         }
         1 => start.tape.resize(MOST_VALUES - free, 7),
         _ => start.output.resize(MOST_VALUES - free, 7),

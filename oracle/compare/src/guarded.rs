@@ -88,6 +88,9 @@ fn compare_pair(
     let is_different = start.machine != twin.machine
         || same_used("numbers", cells, numbers, twin_numbers).is_err();
     counts.count(&answer, predicted.sink, is_different);
+    if predicted.refusal.is_none() {
+        counts.count_moments(&left);
+    }
     counts.blanking.count(program, start, twin);
     Ok(())
 }
@@ -118,6 +121,7 @@ fn alike(one: &Lent, other: &Lent) -> Result<(), String> {
     let (tape, output) = (a.tape_count as usize, a.output_count as usize);
     let (one, other) = (&one.buffers, &other.buffers);
     same_used("addresses", cells, &one.addresses, &other.addresses)?;
+    same_used("moments", cells, &one.moments, &other.moments)?;
     same_used("marks", cells, &one.marks, &other.marks)?;
     same_used("tape", tape, &one.tape, &other.tape)?;
     same_used("output", output, &one.output, &other.output)?;
@@ -200,6 +204,9 @@ struct Counts {
     sinks: Vec<u64>,
     /// The most steps before refusal 18.
     latest: u64,
+    /// Cells that both ends of a pair have, and the marked ones among them.
+    moments: u64,
+    marked_moments: u64,
     blanking: Blanking,
 }
 
@@ -222,6 +229,13 @@ impl Counts {
         }
     }
 
+    /// Of what a pair of runs left alike.
+    fn count_moments(&mut self, left: &Lent) {
+        let cells = left.machine.cell_count;
+        self.moments += cells;
+        self.marked_moments += left.buffers.marks[..cells as usize].iter().sum::<u64>();
+    }
+
     fn complete(&self) -> Result<(), String> {
         let sinks = all_sinks();
         let mut missing: Vec<String> = sinks
@@ -231,6 +245,9 @@ impl Counts {
             .map(|(sink, _)| sink.name())
             .collect();
         missing.extend(self.blanking.missing());
+        if self.marked_moments == 0 {
+            missing.push("a moment of a marked cell".to_string());
+        }
         all_met(&missing)
     }
 
@@ -256,6 +273,10 @@ impl Counts {
             row(&mut text, &format!("refusal {number}"), &[grouped(count)]);
         }
         row(&mut text, "most steps before 18", &[grouped(self.latest)]);
+        let name = "moments compared at the ends of pairs";
+        row(&mut text, name, &[grouped(self.moments)]);
+        let name = "moments of marked cells among them";
+        row(&mut text, name, &[grouped(self.marked_moments)]);
         row(&mut text, "violations", &["0".to_string()]);
 
         head(&mut text, &["Sink", "Refused 18 there"]);

@@ -9,10 +9,11 @@ use ola::{Answer, Lent, Program};
 use ola_core::vm::hardware::access::cell_count;
 use oracle::case::Case;
 use oracle::domain::why_not_compared;
+use oracle::moments::Moments;
 use oracle::outcome::Outcome;
 use oracle::stepper::{Mode, Stepper};
 
-use crate::counts::{StepCounts, Stepped};
+use crate::counts::{Before, StepCounts, Stepped};
 use crate::differences::difference;
 
 /// How the single steps of a program came to their end.
@@ -28,6 +29,10 @@ pub struct Sides {
     pub words: Vec<u64>,
     pub code: Code,
     pub source: Stepper,
+    /// The source's.
+    pub moments: Moments,
+    /// What each cell held before that the source's last step wrote.
+    pub written: Vec<Before>,
     pub library: Lent,
     pub model: Model,
     /// So many values of the tape were compared already; `resume` can only add to it.
@@ -40,6 +45,8 @@ impl Sides {
             words: encode(&case.program),
             code: Code::new(&case.program),
             source: Stepper::new(&case.program, &case.start, mode),
+            moments: Moments::new(&case.start),
+            written: vec![],
             library: lend(&case.start, GREATEST),
             model: Model::plain(case.start.clone(), GREATEST),
             tape_compared: 0,
@@ -62,6 +69,9 @@ impl Sides {
             let frame = self.code.frame_at(self.source.pc());
             walked.last = self.step()?;
             walked.steps += walked.last.steps;
+            if let Some(frame) = &frame {
+                counts.written.count(frame.opcode, &self.written);
+            }
             counts.count(&Stepped {
                 frame,
                 answer: walked.last,
@@ -80,7 +90,7 @@ impl Sides {
     /// One step of each side, compared.
     fn step(&mut self) -> Result<Answer, String> {
         let clk = self.model.state.clk;
-        let source = self.source.step();
+        let source = self.step_source();
         let words = &self.words;
         let library = self.library.run(Program::Words { words, budget: 1 });
         let stepped = self.model.step(&self.code);
@@ -94,6 +104,20 @@ impl Sides {
         self.same_step(&source, &library)?;
         self.same_as_model()?;
         Ok(library)
+    }
+
+    /// A step of the source, which the model has yet to do.
+    pub fn step_source(&mut self) -> oracle::outcome::Answer {
+        let answer = self.moments.step(&mut self.source);
+        let before = |address: &u64| match self.model.state.cells.get(address) {
+            None => Before::Nothing,
+            Some(held) => match self.source.memory().read(*address) {
+                Ok(number) if number == held.number => Before::SameNumber,
+                _ => Before::AnotherNumber,
+            },
+        };
+        self.written = self.moments.written().iter().map(before).collect();
+        answer
     }
 
     /// What a step of the source and one of the library answered and left.
@@ -163,6 +187,12 @@ impl Sides {
                 ));
             }
         }
+        let moments = || addresses.iter().zip(&buffers.moments);
+        if !self.moments.iter().eq(moments()) {
+            let mut pairs = self.moments.iter().zip(moments());
+            let first = pairs.find(|(source, library)| source != library);
+            return Err(format!("moments, resume and the library: {first:x?}"));
+        }
         Ok(())
     }
 
@@ -170,9 +200,15 @@ impl Sides {
         let (state, library) = (&self.model.state, &self.library);
         let buffers = &library.buffers;
         let count = library.machine.cell_count as usize;
+        let held = || state.cells.values();
         let is_same = library.machine == machine_of(state)
             && buffers.addresses[..count].iter().eq(state.cells.keys())
-            && buffers.numbers[..count].iter().eq(state.cells.values())
+            && buffers.numbers[..count]
+                .iter()
+                .eq(held().map(|held| &held.number))
+            && buffers.moments[..count]
+                .iter()
+                .eq(held().map(|held| &held.moment))
             && buffers.tape[..state.tape.len()] == state.tape
             && buffers.output[..state.output.len()] == state.output;
         if is_same {

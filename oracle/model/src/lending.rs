@@ -4,7 +4,7 @@ use ola::{Buffers, Lent, Machine, Marks};
 
 use crate::machine::{Capacity, Model};
 use crate::numbers::{MOST_CELLS, MOST_VALUES};
-use crate::state::State;
+use crate::state::{Held, State};
 
 /// What stands in the buffers beyond their counts.
 const UNUSED: u64 = 0xA5A5_A5A5_A5A5_A5A5;
@@ -21,12 +21,12 @@ pub fn lend(state: &State, capacity: Capacity) -> Lent {
     let mut buffers = Buffers {
         addresses: vec![UNUSED; capacity.cells],
         numbers: vec![UNUSED; capacity.cells],
+        moments: vec![UNUSED; capacity.cells],
         marks: vec![UNUSED; capacity.cells],
         tape: vec![UNUSED; capacity.tape],
         output: vec![UNUSED; capacity.output],
     };
-    put(&mut buffers.addresses, state.cells.keys());
-    put(&mut buffers.numbers, state.cells.values());
+    put_cells(&mut buffers, state);
     buffers.marks[..state.cells.len()].fill(0);
     put(&mut buffers.tape, &state.tape);
     put(&mut buffers.output, &state.output);
@@ -70,13 +70,18 @@ pub fn plain_model(lent: &Lent) -> Model {
     let (machine, buffers) = (&lent.machine, &lent.buffers);
     let count = machine.cell_count as usize;
     let addresses = buffers.addresses[..count].iter().copied();
+    let held = buffers.numbers.iter().zip(&buffers.moments);
+    let held = held.map(|(number, moment)| Held {
+        number: *number,
+        moment: *moment,
+    });
     let state = State {
         registers: machine.registers,
         pc: machine.pc,
         clk: machine.clk,
         psp: machine.psp,
         storage_address: machine.storage_addr,
-        cells: addresses.zip(buffers.numbers.iter().copied()).collect(),
+        cells: addresses.zip(held).collect(),
         tape: buffers.tape[..machine.tape_count as usize].to_vec(),
         output: buffers.output[..machine.output_count as usize].to_vec(),
     };
@@ -91,8 +96,7 @@ pub fn plain_model(lent: &Lent) -> Model {
 /// What the plain run of `model` leaves in the buffers of `start`, used and unused elements alike.
 pub fn left_plain(start: &Lent, model: &Model) -> Lent {
     let mut buffers = start.buffers.clone();
-    put(&mut buffers.addresses, model.state.cells.keys());
-    put(&mut buffers.numbers, model.state.cells.values());
+    put_cells(&mut buffers, &model.state);
     put(&mut buffers.tape, &model.state.tape);
     // An output that was emptied is not cleared.
     put(&mut buffers.output, &model.emptied_output);
@@ -112,6 +116,13 @@ pub fn left_guarded(start: &Lent, model: &Model) -> Lent {
         *mark = model.marked_cells.contains(address) as u64;
     }
     lent
+}
+
+fn put_cells(buffers: &mut Buffers, state: &State) {
+    let held = || state.cells.values();
+    put(&mut buffers.addresses, state.cells.keys());
+    put(&mut buffers.numbers, held().map(|held| &held.number));
+    put(&mut buffers.moments, held().map(|held| &held.moment));
 }
 
 fn put<'a>(buffer: &mut [u64], values: impl IntoIterator<Item = &'a u64>) {

@@ -20,7 +20,7 @@ pub const REGISTERS: usize = 10;
 pub const MOST_FRAMES: usize = 512;
 /// Of a text.
 pub const MOST_BYTES: usize = 65_536;
-/// The greatest capacity of addresses, numbers and marks.
+/// The greatest capacity of addresses, numbers, moments and marks.
 pub const MOST_CELLS: usize = 2048;
 /// The greatest capacity of the tape, and of the output.
 pub const MOST_VALUES: usize = 4096;

@@ -14,9 +14,12 @@ pub struct Case {
     text: Vec<u8>,
     machine: Machine,
     extras: Marks,
-    /// The first places of addresses, numbers, marks, tape and output.
-    given: [Vec<u64>; 5],
+    /// The first places of addresses, numbers, marks, tape, output and moments.
+    given: [Vec<u64>; 6],
+    /// Those of all but moments.
     capacities: [u64; 5],
+    /// That of numbers, where there is none.
+    moments_capacity: Option<u64>,
     /// The bytes of the sheet.
     sheet: u64,
 }
@@ -31,6 +34,7 @@ impl Default for Case {
             given: Default::default(),
             capacities: [MOST_CELLS, MOST_CELLS, MOST_CELLS, MOST_VALUES, MOST_VALUES]
                 .map(|count| count as u64),
+            moments_capacity: None,
             sheet: MOST_LENT,
         }
     }
@@ -82,13 +86,16 @@ impl Case {
                 if numbers.iter().any(|number| *number > MOST_LENT) {
                     return None;
                 }
-                put(numbers, &mut self.capacities)?;
+                self.moments_capacity = numbers.get(5).copied();
+                let all = self.capacities.iter_mut();
+                put(numbers, all.chain(&mut self.moments_capacity))?;
             }
             b"ad" => self.given[0] = numbers,
             b"nu" => self.given[1] = numbers,
             b"ma" => self.given[2] = numbers,
             b"ta" => self.given[3] = numbers,
             b"ou" => self.given[4] = numbers,
+            b"mo" => self.given[5] = numbers,
             _ => return None,
         }
         Some(())
@@ -126,11 +133,23 @@ impl Case {
             buffers: Buffers {
                 addresses: buffer(0),
                 numbers: buffer(1),
+                moments: self.moments(),
                 marks: buffer(2),
                 tape: buffer(3),
                 output: buffer(4),
             },
         }
+    }
+
+    /// Those of used cells are 0 where no line gives them.
+    fn moments(&self) -> Vec<u64> {
+        let [_, numbers, ..] = self.capacities;
+        let capacity = self.moments_capacity.unwrap_or(numbers);
+        let used = capacity.min(self.machine.cell_count) as usize;
+        let mut moments = self.given[5].clone();
+        moments.resize(used.max(moments.len()), 0);
+        moments.resize(capacity as usize, UNUSED);
+        moments
     }
 
     /// The sheet of traced calls.

@@ -87,6 +87,7 @@ fn parts(lent: &Lent) -> Vec<(&'static str, Vec<u64>)> {
         ("used", used),
         ("addresses", buffers.addresses.clone()),
         ("numbers", buffers.numbers.clone()),
+        ("moments", buffers.moments.clone()),
         ("marks", buffers.marks.clone()),
         ("tape", buffers.tape.clone()),
         ("output", buffers.output.clone()),

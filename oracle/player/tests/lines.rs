@@ -58,6 +58,62 @@ fn two_characters_of_a_first_word_are_enough() {
     assert_eq!(answers(&short)[0], "e0 1 3 1 0");
 }
 
+/// What a run without steps shows of a case: refusal 3, or e3.
+fn entered(lines: &str) -> String {
+    let input = format!("case 1\nwords b\n{lines}\nplain 0\n");
+    let played = play(input.as_bytes());
+    String::from_utf8(played.stdout)
+        .unwrap()
+        .replacen("case 1\nplain 0\n", "", 1)
+}
+
+#[test]
+fn moments_have_the_capacity_of_numbers_where_no_sixth_is_given() {
+    const ENTERED: &str = "run e3 0 0 0 0\n";
+    const REFUSED: &str = "run 3 0 0 0 0\n";
+    for (buffers, answer) in [
+        ("", ENTERED),
+        ("buffers", ENTERED),
+        ("buffers 3 3 3", ENTERED),
+        ("buffers 3 3 3 0 0 3", ENTERED),
+        ("buffers 3 3 3 0 0 2", REFUSED),
+        ("buffers 3 3 3 0 0 4", REFUSED),
+        ("buffers 3 3 0 0 0 3", ENTERED),
+    ] {
+        assert_eq!(entered(buffers), answer, "{buffers}");
+    }
+}
+
+#[test]
+fn moments_that_no_line_gives_are_0_where_cells_are_used() {
+    const CELLS: &str = "used 2\naddresses 3 4\nnumbers 5 6\nstate 0 7";
+    for (moments, answer) in [
+        ("", "run e3 0 0 7 0\n"),
+        ("moments 7", "run e3 0 0 7 0\n"),
+        ("moments 7 7", "run e3 0 0 7 0\n"),
+        ("mo 7 7 8", "run e3 0 0 7 0\n"),
+        ("moments 8", "run 3 0 0 0 0\n"),
+        ("moments 0 8", "run 3 0 0 0 0\n"),
+        // One place, and two used.
+        ("moments 7 7\nbuffers 2 2 2 0 0 1", "run 3 0 0 0 0\n"),
+    ] {
+        assert_eq!(entered(&format!("{CELLS}\n{moments}")), answer, "{moments}");
+    }
+}
+
+#[test]
+fn a_store_shows_its_moment_behind_its_number() {
+    // MSTORE 4 + 0 R1: cell 4 is new and goes before cell 5, which keeps its moment. Then the same again.
+    let mstore = "20000890a 4 0";
+    let case = format!(
+        "case 1\nwords {mstore} {mstore}\nregisters 0 9\nstate 0 6\nused 1\naddresses 5\nnumbers 7\nmoments 3\nplain 2\n"
+    );
+    let expected = "case 1\nplain 2\ne3 1 2 7 0\nused 0=2\naddresses 0=4 1=5\nnumbers 0=9 1=7\nmoments 0=6 1=3\n\
+        e3 1 4 8 0\nmoments 0=7\nrun e3 2 4 8 0\n";
+    let played = play(case.as_bytes());
+    assert_eq!(String::from_utf8_lossy(&played.stdout), expected);
+}
+
 #[test]
 fn a_sheet_shows_each_line_that_is_new() {
     // MOV - 5 R1, END; the sheet has bytes for one line.
@@ -85,7 +141,10 @@ fn a_line_that_is_not_understood_is_named() {
         (b"words b\xff", "words b\\xff"),
         (b"buffers 1002", "buffers 1002"),
         (b"words 0b", "words 0b"),
-        (b"buffers 1 1 1 1 1 1", "buffers 1 1 1 1 1 1"),
+        (b"buffers 1 1 1 1 1 1 1", "buffers 1 1 1 1 1 1 1"),
+        (b"buffers 1 1 1 1 1 1002", "buffers 1 1 1 1 1 1002"),
+        (b"moments 0b", "moments 0b"),
+        (b"m 1", "m 1"),
         (b"used 1 2 3 4", "used 1 2 3 4"),
         (b"state 0 0 0 0 0 0 0 0", "state 0 0 0 0 0 0 0 0"),
         (b"zeros", "zeros"),

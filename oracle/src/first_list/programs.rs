@@ -8,7 +8,7 @@ use model::state::State;
 
 use super::operand_kinds::{compared_opcodes, operand_of_kind};
 use super::values::{self, U32_MAX};
-use crate::case::{end, Case};
+use crate::case::{end, since_0, Case};
 use crate::splitmix::SplitMix64;
 
 const COUNT: usize = 1000;
@@ -154,7 +154,9 @@ pub fn random_start(random: &mut SplitMix64) -> State {
         .chain(HEAP_END - 3..HEAP_END)
     {
         if random.percent(85) {
-            start.cells.insert(address, values::storable(random));
+            start
+                .cells
+                .insert(address, since_0(values::storable(random)));
         }
     }
     for word in &mut start.storage_address {
@@ -167,7 +169,15 @@ pub fn random_start(random: &mut SplitMix64) -> State {
         7..=8 => random.below(1000),
         _ => 1_000_000_000_000 - 1 - random.below(4),
     };
+    spread_moments(&mut start);
     start
+}
+
+/// From 0 to clk, by the cells' addresses.
+pub fn spread_moments(start: &mut State) {
+    for (address, held) in &mut start.cells {
+        held.moment = address % (start.clk + 1);
+    }
 }
 
 fn some(random: &mut SplitMix64, most: u64) -> Vec<u64> {

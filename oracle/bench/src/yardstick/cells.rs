@@ -1,4 +1,4 @@
-//! The cells: a map in two slices, the addresses strictly rising.
+//! The cells: a map in three slices, the addresses strictly rising.
 
 use super::field::P;
 use super::Refusal;
@@ -9,16 +9,24 @@ pub const HEAP_END: u64 = 0xFFFF_FFFE_0000_0002;
 pub struct Cells<'a> {
     addresses: &'a mut [u64],
     numbers: &'a mut [u64],
+    moments: &'a mut [u64],
     count: usize,
 }
 
 impl<'a> Cells<'a> {
     /// Of slices that passed entry.
-    pub fn new(addresses: &'a mut [u64], numbers: &'a mut [u64], count: usize) -> Cells<'a> {
-        assert!(count <= addresses.len() && addresses.len() == numbers.len());
+    pub fn new(
+        addresses: &'a mut [u64],
+        numbers: &'a mut [u64],
+        moments: &'a mut [u64],
+        count: usize,
+    ) -> Cells<'a> {
+        assert!(count <= addresses.len());
+        assert!(addresses.len() == numbers.len() && addresses.len() == moments.len());
         Cells {
             addresses,
             numbers,
+            moments,
             count,
         }
     }
@@ -62,7 +70,7 @@ impl<'a> Cells<'a> {
     }
 
     #[inline(always)]
-    pub fn store(&mut self, address: u64, number: u64) -> Result<(), Refusal> {
+    pub fn store(&mut self, address: u64, number: u64, moment: u64) -> Result<(), Refusal> {
         if number > P {
             return Err(14);
         }
@@ -70,7 +78,10 @@ impl<'a> Cells<'a> {
         match self.find(address) {
             Ok(at) => {
                 // SAFETY: `find` gives places below `count`.
-                unsafe { *self.numbers.get_unchecked_mut(at) = number };
+                unsafe {
+                    *self.numbers.get_unchecked_mut(at) = number;
+                    *self.moments.get_unchecked_mut(at) = moment;
+                }
                 Ok(())
             }
             Err(at) => {
@@ -79,6 +90,7 @@ impl<'a> Cells<'a> {
                 }
                 insert(self.addresses, self.count, at, address);
                 insert(self.numbers, self.count, at, number);
+                insert(self.moments, self.count, at, moment);
                 self.count += 1;
                 Ok(())
             }
@@ -87,7 +99,7 @@ impl<'a> Cells<'a> {
 
     /// Stores numbers to the cells from `start` on.
     #[inline(always)]
-    pub fn store_span(&mut self, start: u64, numbers: &[u64]) -> Result<(), Refusal> {
+    pub fn store_span(&mut self, start: u64, numbers: &[u64], moment: u64) -> Result<(), Refusal> {
         if numbers.is_empty() {
             return Ok(());
         }
@@ -114,12 +126,14 @@ impl<'a> Cells<'a> {
         if count != self.count {
             self.addresses.copy_within(high..self.count, low + length);
             self.numbers.copy_within(high..self.count, low + length);
+            self.moments.copy_within(high..self.count, low + length);
             self.count = count;
             for (place, address) in self.addresses[low..].iter_mut().zip(start..end) {
                 *place = address;
             }
         }
         self.numbers[low..low + length].copy_from_slice(numbers);
+        self.moments[low..low + length].fill(moment);
         Ok(())
     }
 

@@ -183,9 +183,10 @@ fn random_start(random: &mut SplitMix64) -> Lent {
     for word in &mut start.machine.storage_addr {
         *word = number(random);
     }
-    if random.percent(10) {
-        start.machine.clk = 1_000_000_000_000 - random.below(8);
-    }
+    start.machine.clk = match random.below(10) {
+        0 => 1_000_000_000_000 - random.below(8),
+        _ => random.below(8),
+    };
 
     let buffers = &mut start.buffers;
     let cells = 8 + random.below(24) as usize;
@@ -195,13 +196,18 @@ fn random_start(random: &mut SplitMix64) -> Lent {
     for place in 0..cells {
         buffers.addresses[place] = address;
         buffers.numbers[place] = number(random).min(P);
+        buffers.moments[place] = random.below(start.machine.clk + 1);
         address = address.wrapping_add(1 + random.below(gaps));
     }
     if count > 0 && random.percent(1) {
         buffers.numbers[count - 1] = P + random.below(2);
     }
+    if count > 0 && random.percent(1) {
+        buffers.moments[count - 1] = start.machine.clk + random.below(2);
+    }
     buffers.addresses.truncate(cells);
     buffers.numbers.truncate(cells);
+    buffers.moments.truncate(cells + random.percent(1) as usize);
     buffers.tape.truncate(24);
     buffers.output.truncate(12);
     for value in buffers.tape.iter_mut().chain(&mut buffers.output) {

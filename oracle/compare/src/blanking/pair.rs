@@ -63,7 +63,7 @@ impl Pair {
         self.runs.each_ref().map(|run| match holder {
             Holder::Register(register) => run.register(register),
             Holder::Cell(address) => Number {
-                value: run.state.cells[&address],
+                value: run.state.cells[&address].number,
                 marked: run.marked_cells.contains(&address),
             },
         })

@@ -69,6 +69,7 @@ pub fn twin(random: &mut SplitMix64, lent: &Lent) -> Lent {
     for (buffer, count) in [
         (&mut buffers.addresses, cells),
         (&mut buffers.numbers, cells),
+        (&mut buffers.moments, cells),
         (&mut buffers.marks, cells),
         (&mut buffers.tape, machine.tape_count as usize),
         (&mut buffers.output, machine.output_count as usize),

@@ -5,7 +5,9 @@ use model::opcodes::{Opcode, OPCODES};
 use ola::Answer;
 use oracle::first_list::operand_kinds::{combinations_in_rows, compared_opcodes};
 
-use crate::counts::{all_met, operand_name, KindCounts, OutsideCounts, COMPARED_REFUSALS};
+use crate::counts::{
+    all_met, operand_name, KindCounts, OutsideCounts, WrittenCounts, COMPARED_REFUSALS,
+};
 use crate::options::Options;
 use crate::tables::{grouped, head, row};
 
@@ -49,6 +51,8 @@ pub struct Counts {
     /// Ends with a full sheet: a refusal of the next step's own, and e3.
     full_refused: u64,
     full_paused: u64,
+    /// By the writes that a row's trace has.
+    pub written: WrittenCounts,
 }
 
 impl Counts {
@@ -158,6 +162,7 @@ impl Counts {
         need(self.full_refused, "refused with a full sheet".to_string());
         need(self.full_paused, "paused with a full sheet".to_string());
         missing.extend(self.kinds.missing(&combinations_in_rows()));
+        missing.extend(self.written.missing());
         all_met(&missing)
     }
 
@@ -173,6 +178,7 @@ impl Counts {
             &combinations,
             "a row can have",
         );
+        self.written.put(&mut text);
         self.put_further_reads(&mut text);
         self.put_not_encoded(&mut text);
         text

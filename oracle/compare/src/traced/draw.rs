@@ -3,7 +3,7 @@
 use model::frames::Operand;
 use model::numbers::{HEAP_END, MOST_CELLS, P, STACK_END};
 use model::opcodes::Opcode;
-use oracle::case::{frame, Case};
+use oracle::case::{frame, since_0, Case};
 use oracle::first_list::operand_kinds::{combinations_in_rows, frame_with_kind};
 use oracle::first_list::programs::random_start;
 use oracle::splitmix::SplitMix64;
@@ -60,7 +60,7 @@ fn call(random: &mut SplitMix64) -> Case {
     if random.percent(10) {
         let more = (MOST_CELLS - case.start.cells.len()) as u64;
         // Neither cell is among them.
-        let others = (100..100 + more).map(|address| (address, 7));
+        let others = (100..100 + more).map(|address| (address, since_0(7)));
         case.start.cells.extend(others);
     }
     case

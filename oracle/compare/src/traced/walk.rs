@@ -81,12 +81,13 @@ impl Walk {
         if let Some(frame) = &frame {
             self.count_further_read(frame, counts);
         }
-        let source = self.sides.source.step();
+        let source = self.sides.step_source();
         let answer = self.library_and_model()?;
         self.sides.same_step(&source, &answer)?;
         self.sides.same_as_model()?;
         if let (Some(frame), 1) = (&frame, answer.steps) {
             self.same_row(frame, counts)?;
+            counts.written.count(frame.opcode, &self.sides.written);
         }
         counts.count(frame.as_ref(), &answer);
         Ok(answer)
@@ -118,7 +119,8 @@ impl Walk {
         }
         counts.not_encoded(frame, &answer);
         if answer.steps == 1 {
-            let plain = self.sides.source.step_in(Mode::Plain);
+            let sides = &mut self.sides;
+            let plain = sides.moments.step_in(&mut sides.source, Mode::Plain);
             self.sides.same_step(&plain, &answer)?;
         }
         self.sides.same_as_model()?;

@@ -3,6 +3,8 @@
 use model::numbers::CLOCK_LIMIT;
 use model::numbers::{HEAP_END, P, STACK_END};
 use model::state::State;
+use oracle::case::since_0;
+use oracle::first_list::programs::spread_moments;
 use oracle::splitmix::SplitMix64;
 
 use super::{FIELD_CELLS, FRAME_POINTER, MOST_TAPE, NEAR, SMALL_CELLS};
@@ -23,10 +25,10 @@ pub fn start(random: &mut SplitMix64) -> State {
         .chain(STACK_END - NEAR..STACK_END + NEAR)
         .chain(HEAP_END - NEAR..HEAP_END)
     {
-        start.cells.insert(address, field_element(random));
+        start.cells.insert(address, since_0(field_element(random)));
     }
     for address in FIELD_CELLS..FIELD_CELLS + SMALL_CELLS {
-        start.cells.insert(address, small_number(random));
+        start.cells.insert(address, since_0(small_number(random)));
     }
     let tape_length = 1 + random.below(MOST_TAPE);
     start.tape = (0..tape_length).map(|_| field_element(random)).collect();
@@ -37,6 +39,7 @@ pub fn start(random: &mut SplitMix64) -> State {
         7..=8 => random.below(CLOCK_LIMIT),
         _ => CLOCK_LIMIT - 1 - random.below(5000),
     };
+    spread_moments(&mut start);
     start
 }
 

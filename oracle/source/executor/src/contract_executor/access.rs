@@ -4,8 +4,8 @@ use std::collections::HashMap;
 
 use super::{
     BinaryInstruction, BinaryProgram, ContractAddress, ExeContext, ExecuteMode, OlaCachedStorage,
-    OlaContractExecutor, OlaContractExecutorState, OlaMemory, OlaTape, TxEventManager,
-    TxTraceManager, MAX_CLK, NUM_GENERAL_PURPOSE_REGISTER,
+    OlaContractExecutor, OlaContractExecutorState, OlaMemory, OlaOpcode, OlaStateDiff, OlaTape,
+    TxEventManager, TxTraceManager, MAX_CLK, NUM_GENERAL_PURPOSE_REGISTER,
 };
 
 /// `resume` gives up after a step that leaves the clock here or further.
@@ -74,6 +74,48 @@ impl Executor {
             OlaContractExecutorState::DelegateCalling(callee) => Resumed::DelegateCalling(callee),
             OlaContractExecutorState::Running => unreachable!("resume goes on while it runs"),
         })
+    }
+
+    /// The addresses of the cells that the next step writes, as the source's own changes have them, which are not applied. An error where
+    /// the step fails before. Opcodes that document 01 does not cover are not asked.
+    pub fn next_writes(&mut self, tape: &mut OlaTape) -> anyhow::Result<Vec<u64>> {
+        let Some(instruction) = self.next_instruction().cloned() else {
+            return Ok(vec![]);
+        };
+        let (executor, tp) = (&mut self.0, tape.tp());
+        let (changes, _) = match instruction.opcode {
+            OlaOpcode::ADD
+            | OlaOpcode::MUL
+            | OlaOpcode::EQ
+            | OlaOpcode::AND
+            | OlaOpcode::OR
+            | OlaOpcode::XOR
+            | OlaOpcode::NEQ
+            | OlaOpcode::GTE => executor.process_two_operands_arithmetic_op(tp, instruction),
+            OlaOpcode::ASSERT => executor.process_assert(tp, instruction),
+            OlaOpcode::MOV => executor.process_mov(tp, instruction),
+            OlaOpcode::JMP | OlaOpcode::CJMP => executor.process_jmp(tp, instruction),
+            OlaOpcode::CALL => executor.process_call(tp, instruction),
+            OlaOpcode::RET => executor.process_ret(tp, instruction),
+            OlaOpcode::MLOAD => executor.process_mload(tp, instruction),
+            OlaOpcode::MSTORE => executor.process_mstore(tp, instruction),
+            OlaOpcode::END => executor.process_end(tp, instruction),
+            OlaOpcode::RC => executor.process_rc(tp, instruction),
+            OlaOpcode::NOT => executor.process_not(tp, instruction),
+            OlaOpcode::TLOAD => executor.process_tload(instruction, tape),
+            OlaOpcode::TSTORE => executor.process_tstore(instruction, tape),
+            OlaOpcode::SCCALL => executor.process_sccall(instruction, tape),
+            OlaOpcode::POSEIDON
+            | OlaOpcode::SLOAD
+            | OlaOpcode::SSTORE
+            | OlaOpcode::SIGCHECK
+            | OlaOpcode::EVENT => return Ok(vec![]),
+        }?;
+        let cells = changes.into_iter().filter_map(|change| match change {
+            OlaStateDiff::Memory(cells) => Some(cells),
+            _ => None,
+        });
+        Ok(cells.flatten().map(|cell| cell.addr).collect())
     }
 
     pub fn set_clk(&mut self, clk: u64) {
