@@ -5,7 +5,7 @@ import sys
 from collections import Counter
 
 import vectors
-from covered import blanking, parts, sheets, steps
+from covered import blanking, moments, parts, sheets, steps
 from covered.report import heading, missing, table
 from generate import DRAWN_PARTS, PARTS
 
@@ -34,6 +34,8 @@ def main():
     sheets.answers_table(runs)
     sheets.capacities_table(runs)
     sheets.calls_table(runs)
+    moments.kept_table()
+    moments.entered_table()
     if missing:
         sys.exit("coverage.py: the vectors do not cover: " + "; ".join(missing))
 

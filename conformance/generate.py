@@ -4,8 +4,8 @@
 import sys
 
 from generator import (
-    capacities, clocks, digits, drawn, entry, factors, kilosteps, kinds, lengths, lines, malformed, marks, operands, products, programs,
-    refusals, regions, registers, sheets, sizes, starts, steps, texts, traced, values, zeros,
+    capacities, clocks, digits, drawn, earlier, entry, factors, kilosteps, kinds, lengths, lines, malformed, marks, moments, operands,
+    products, programs, refusals, regions, registers, sheets, sizes, starts, steps, texts, traced, values, zeros,
 )  # fmt: skip
 from generator.numbers import SplitMix64
 
@@ -14,7 +14,7 @@ SEED = 0x01A57E9
 HEAD = f"""\
 # The generated vectors: cases for an implementation of the step machine. The format is described in conformance/FORMAT.md. This file is made by
 #   python3 conformance/generate.py > crates/vectors/stdin
-# Its last four parts are drawn by SplitMix64 from the seed {SEED:x}.
+# Its last five parts are drawn by SplitMix64 from the seed {SEED:x}.
 """
 
 # What a case's name begins with, what the part has, and its cases.
@@ -41,12 +41,14 @@ PARTS = [
     ("line", "Lines of a sheet: another number in every word; operands by kind, place and register, and ignored ones.", lines.cases),
     ("traced", "Traced runs: refusals, the cell that CALL reads, forms of a program, entry, the clock's end, the budget's.", traced.cases),
     ("sheet", "Sheets of all lengths: 19, what goes before it, and what it leaves.", sheets.cases),
+    ("moment", "Moments: which steps write them and which leave them, beside marks, over several steps; moments at entry.", moments.cases),
 ]
 DRAWN_PARTS = [
     ("step", "Steps, drawn.", steps.cases),
     ("program", "Programs, drawn.", programs.cases),
     ("zero", "Programs of products among zeros and marks, drawn.", zeros.cases),
     ("drawn", "Traced steps and programs, drawn.", drawn.cases),
+    ("earlier", "Steps and programs with moments, drawn.", earlier.cases),
 ]
 
 

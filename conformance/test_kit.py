@@ -35,8 +35,8 @@ NUMBERS = {
     "registers": 11,
     "state": 7,
     "used": 3,
-    "buffers": 5,
-    **{buffer: MOST_VALUES for buffer in ("addresses", "numbers", "marks", "tape", "output")},
+    "buffers": 6,
+    **{buffer: MOST_VALUES for buffer in ("addresses", "numbers", "moments", "marks", "tape", "output")},
     "sheet": 1,
     **{run: 1 for run in vectors.RUNS},
 }
@@ -103,6 +103,17 @@ class Files(unittest.TestCase):
             answers = vectors.read(vectors.FOLDER / f"{name}.answers")
             self.assertRegex(answers, rb"\A([ -~]+\n)+\Z")
 
+    def test_changes_stand_in_the_order_of_the_format(self):
+        text = " ".join((HERE / "FORMAT.md").read_text().split())
+        names = re.search(r"NAME is one of ([a-z, ]+), in this order", text).group(1).replace(" and ", ", ").split(", ")
+        order = ["callee", *names, "sheet"]
+        for name in vectors.NAMES:
+            for answers in vectors.read_answers(name):
+                for call in answers.calls:
+                    words = [line.split(" ")[0] for line in call.lines[1:]]
+                    self.assertEqual(words, sorted(words, key=order.index), answers.name)
+                    self.assertEqual(len({*words} - {"sheet"}), len(words) - words.count("sheet"), answers.name)
+
     def test_two_characters_tell_lines_apart(self):
         rows = re.findall(r"^\| `.*$", (HERE / "FORMAT.md").read_text(), re.MULTILINE)
         words = {word for row in rows for word in re.findall(r"`([a-z]+)\b", row)}
@@ -128,15 +139,17 @@ class Files(unittest.TestCase):
                         count += 1
         self.assertGreater(count, 0)
 
-    def test_the_traced_example_of_the_format_is_a_vector(self):
+    def test_examples_of_the_format_are_vectors(self):
         lines = [line.strip() for line in (HERE / "FORMAT.md").read_text().splitlines() if line.startswith("    ")]
-        name = "case sheet: a MOV and a MUL, 201 bytes"
-        at, then = (place for place, line in enumerate(lines) if line == name)
-        (case,) = [case for case in vectors.read_cases("generated") if case.lines[0] == name]
-        (answers,) = [answers for answers in vectors.read_answers("generated") if answers.name == name]
-        self.assertEqual(lines[at:then], [line for line in case.lines if line])
-        run, *written = lines[then + 1 :]
-        self.assertEqual((run, written), (answers.calls[0].run, [line for call in answers.calls for line in call.lines]))
+        starts = [place for place, line in enumerate(lines) if line.startswith("case ")]
+        cases = {case.lines[0]: [line for line in case.lines if line] for case in vectors.read_cases("generated")}
+        answers = {each.name: each.calls for each in vectors.read_answers("generated")}
+        examples = [lines[start:end] for start, end in zip(starts, starts[1:] + [len(lines)])]
+        for name in ("case moment: MSTORE to a present cell, then to a new one", "case sheet: a MOV and a MUL, 201 bytes"):
+            case, (_, run, *written) = (example for example in examples if example[0] == name)
+            self.assertEqual(case, cases[name])
+            calls = answers[name]
+            self.assertEqual((run, written), (calls[0].run, [line for call in calls for line in call.lines]))
 
     def test_a_line_holds_nul_and_bytes_above_127(self):
         lines = [line for case in vectors.read_cases("generated") for line in case.lines if line.startswith("line ")]

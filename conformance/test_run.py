@@ -8,7 +8,7 @@ from pathlib import Path
 
 HERE = Path(__file__).parent
 ANSWERS = HERE / "vectors" / "worked.answers"
-CASES = 626
+CASES = 687
 SOLVE_INPUTS = 37
 
 

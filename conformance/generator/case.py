@@ -22,6 +22,8 @@ class Case:
     psp: int = HEAP_END
     context: tuple = (0, 0, 0, 0)
     cells: dict = field(default_factory=dict)
+    # Of the cells, by their addresses; the others have 0.
+    moments: dict = field(default_factory=dict)
     cell_marks: set = field(default_factory=set)
     tape: list = field(default_factory=list)
     output: list = field(default_factory=list)
@@ -51,6 +53,7 @@ class Case:
             "buffers": capacities if capacities != [MOST_CELLS] * 3 + [MOST_VALUES] * 2 else [],
             "addresses": addresses,
             "numbers": [self.cells[address] for address in addresses],
+            "moments": [self.moments.get(address, 0) for address in addresses] if self.moments else [],
             "marks": marks,
             "tape": self.tape,
             "output": self.output,
