@@ -78,10 +78,14 @@ one-of-frame : (n : ℕ) (f : Frame) (fs : List Frame) {r q : ℕ}
     → MalformedAt n (map is_malformed (on_frame f fs)) r → MalformedAt n (map is_malformed (on_frame f fs)) q → r ≡ q
 one-of-frame n (Holds i) fs h (further a) (further b) = h a b
 one-of-frame n Malformed fs h here here = refl
+one-of-frame n Malformed fs h here (further b) = elim b [ ]
+one-of-frame n Malformed fs h (further a) _ = elim a [ ]
 
 one-of-frames : (n skip : ℕ) (ws : List ℕ) {r q : ℕ}
     → MalformedAt n (map is_malformed (frames_after skip ws)) r → MalformedAt n (map is_malformed (frames_after skip ws)) q → r ≡ q
 unfolding frames_after
+one-of-frames n zero [] a b = elim a [ ]
+one-of-frames n (suc skip) [] a b = elim a [ ]
 one-of-frames n zero (w ∷ ws) a b = one-of-frame n (frame_of (w ∷ ws)) (frames_after (value_count w) ws) (one-of-frames (suc n) (value_count w) ws) a b
 one-of-frames n (suc skip) (w ∷ ws) a b = one-of-frames n skip ws a b
 

@@ -13,7 +13,7 @@ use Rattle.rules.specs.declared.Held.{Held}
 use Rattle.rules.specs.declared.Refusal.{Refusal}
 use Rattle.rules.specs.declared.Refusal.TheVariants.{NoInstruction}
 use Rattle.rules.specs.Field.{field_add, field_mul}
-use Rattle.rules.specs.Memory.{Content, absent, present, Memory}
+use Rattle.rules.specs.Memory.{held, Content, absent, present, Memory}
 use Rattle.rules.specs.Opcodes.{Class, addition, multiplication, equality, small, complement, move, assert, range_check, jump, conditional_jump, call, return, load, store, tape_load, tape_store, contract_call, end, uncovered}
 use Rattle.rules.specs.Operands.{binary_length, instruction_at, fetch, Want, ignored, lacking, value, later, register, target, in_field, value_of, target_of, absence, operand, Operands, operands}
 use Rattle.rules.specs.Step.{Environment, State, Next, r9, content_value, read, read_below, read_many, read_span, store_many, operate, capacity, step}
@@ -135,7 +135,7 @@ module _ (number_memory : Memory Held) (mark_memory : Memory ℕ) where
   unfolding store_many refusal_meaning
   many-stored m c a [] = passed
   many-stored m c a (v ∷ vs) =
-      refusing-require _ _ refl (refusing-require _ _ refl (refusing-require _ _ refl (many-stored m _ (suc a) vs)))
+      refusing-require _ _ refl (refusing-require _ _ refl (refusing-require _ _ refl (many-stored m (number_memory.put c a (held v m)) (suc a) vs)))
 
   -- The operation
 

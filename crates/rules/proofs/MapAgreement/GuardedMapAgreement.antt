@@ -5,7 +5,7 @@ use mathlib.Core.List.{List, [], ◌∷◌}
 use Rattle.rules.specs.declared.Instruction.{Instruction}
 use Rattle.rules.specs.declared.Held.{Held}
 use Rattle.rules.specs.Results.{GuardedResult}
-use Rattle.rules.specs.Cells.{Cells, number_cells, mark_cells}
+use Rattle.rules.specs.Cells.{put, Cells, number_cells, mark_cells}
 use Rattle.rules.specs.PlainMap.{PlainMap, number_map, mark_map}
 use Rattle.rules.specs.Opcodes.{Class, addition, multiplication, equality, small, complement, move, assert, range_check, jump, conditional_jump, call, return, load, store, tape_load, tape_store, contract_call, end, uncovered, class_of}
 use Rattle.rules.specs.Operands.{Operands}
@@ -30,7 +30,7 @@ same-clean : {c : Cells ℕ} {m : PlainMap ℕ} → SameMemory c m → (a : ℕ)
     → SameMemory (clean_many mark_cells c a vs) (clean_many mark_map m a vs)
 unfolding clean_many
 same-clean h a [] = h
-same-clean h a (v ∷ vs) = same-clean (same-put h a 0) (suc a) vs
+same-clean {c = c} {m = m} h a (v ∷ vs) = same-clean {c = put c a 0} {m = mark_map.put m a 0} (same-put h a 0) (suc a) vs
 
 -- marks with a plain map for their cells
 abbrev marks_with : MarkState mark_cells → PlainMap ℕ → MarkState mark_map

@@ -51,11 +51,11 @@ same_store : {c : Cells Held} {m : PlainMap Held} → SameMemory c m → (moment
     → Both SameMemory (store_many number_cells moment c a vs) (store_many number_map moment m a vs)
 unfolding store_many
 same_store h t a [] = passed h
-same_store h t a (v ∷ vs) =
+same_store {c = c} {m = m} h t a (v ∷ vs) =
     both-require StoreFault refl
     (both-require StoreFault refl
     (both-require ProphetStore refl
-    (same_store (same-put h a (held v t)) t (suc a) vs)))
+    (same_store {c = put c a (held v t)} {m = number_map.put m a (held v t)} (same-put h a (held v t)) t (suc a) vs)))
 
 -- A state and the same state over a map: what is no cell is one value
 

@@ -15,7 +15,7 @@ use Rattle.rules.specs.declared.Refusal.TheVariants.{NotInField, CellAbsent, Sto
 use Rattle.rules.specs.Numbers.{p, choose, bit}
 use Rattle.rules.specs.Results.{pass, bind}
 use Rattle.rules.specs.Field.{is_element, field_add, field_mul}
-use Rattle.rules.specs.Memory.{Content, absent, present}
+use Rattle.rules.specs.Memory.{held, Content, absent, present}
 use Rattle.rules.specs.Cells.{Cells, none, cell, get, put, count, number_cells, mark_cells}
 use Rattle.rules.specs.Operands.{Want, ignored, lacking, value, later, register, target, in_field, value_of, target_of, absence, operand}
 use Rattle.rules.specs.Step.{State, Next, is_storable, content_value, read_below, read_many, read_span, store_many, store_one}
@@ -229,10 +229,10 @@ pub many-stored : {k : Cells ℕ} {c d : Cells Held} → CellsRelated k c d → 
     → Both (CellsRelated (clean_many mark_cells k a vs)) (store_many number_cells m c a vs) (store_many number_cells n d a vs)
 unfolding store_many clean_many
 many-stored h e a [] = passed h
-many-stored h e a (v ∷ vs) =
+many-stored {k = k} {c = c} {d = d} h {m = m} {n = n} e a (v ∷ vs) =
     both-require StoreFault refl
     (both-require StoreFault refl
-    (both-require ProphetStore refl (many-stored (cells-put h a 0 (record { number = equal refl; moment = e })) e (suc a) vs)))
+    (both-require ProphetStore refl (many-stored {k = put k a 0} {c = put c a (held v m)} {d = put d a (held v n)} (cells-put h a 0 (record { number = equal refl; moment = e })) e (suc a) vs)))
 
 -- operands
 

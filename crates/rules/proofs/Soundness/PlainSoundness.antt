@@ -49,11 +49,11 @@ sound-put {clk} {a} {v} {c} l u h =
 sound-store : {clk : ℕ} {c : Cells Held} → SoundCells clk c → (a : ℕ) (vs : List ℕ) → Passing (SoundCells clk) (store_many number_cells clk c a vs)
 unfolding store_many
 sound-store h a [] = passed h
-sound-store h a (v ∷ vs) =
+sound-store {clk = clk} {c = c} h a (v ∷ vs) =
     passing-require _ λ u.
     passing-require _ λ t.
     passing-require _ λ l.
-    sound-store (sound-put (ltb-true _ _ l) (leb-true _ _ u) h) (suc a) vs
+    sound-store {clk = clk} {c = put c a (held v clk)} (sound-put (ltb-true _ _ l) (leb-true _ _ u) h) (suc a) vs
 
 -- one step later
 sound-later : {clk : ℕ} {c : Cells Held} → SoundCells clk c → SoundCells (suc clk) c
