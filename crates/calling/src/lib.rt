@@ -2,4 +2,6 @@
 // of crate `executor` are thin functions over it.
 //
 // Internal: each function takes any arguments, but a plain call is handed no marks.
+#![tactic(auto)]
+
 pub mod runs;

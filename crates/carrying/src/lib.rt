@@ -1,6 +1,8 @@
 // Effects carried out: on the registers, which are among the values, and on the buffers, which the functions of `storing` alone write.
 //
 // Internal, for the crates above: `carry_out`.
+#![tactic(auto)]
+
 ghost use Rattle.std.specs.Prelude.{◌≡◌, ◌++◌, ◌+◌, ◌≤◌, ◌<◌, length, take, drop};
 ghost use Rattle.rules.specs.Numbers.{heap_end, marks_end};
 ghost use Rattle.rules.specs.Cells as Cells;
@@ -16,7 +18,7 @@ use effects::{Counts, Effect, EffectKind, Mode};
 use rules::{Answer, Marks};
 
 // How a step leaves the run: it goes on; it ends or calls; or the step is refused.
-#[derive(Drop)]
+#[derive(Clone, Copy)]
 pub enum Finish {
     GoesOn,
     Leaves(Answer),
@@ -24,7 +26,7 @@ pub enum Finish {
 }
 
 // What a step leaves, beside what it wrote into registers and buffers.
-#[derive(Drop)]
+#[derive(Clone, Copy)]
 pub struct Stepped {
     pub pc: u64,
     pub counts: Counts,

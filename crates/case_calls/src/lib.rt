@@ -1,5 +1,7 @@
 // One call that a case asks for: the state is taken out of the fields, and what the call leaves is put into fields again. The call is
 // lent buffers of this crate's own.
+#![tactic(auto)]
+
 mod forms;
 
 use case_fields::buffers::{fill, fill_sheet, put_buffers};
@@ -10,7 +12,7 @@ use case_fields::text::first_bytes;
 use rules::{Marks, Ran};
 
 // Which run a case asks for.
-#[derive(Drop)]
+#[derive(Clone, Copy)]
 pub enum Run {
     Plain,
     Guarded,
@@ -19,7 +21,7 @@ pub enum Run {
 
 // The library's functions that a case can ask for, each plain, guarded and traced; some take a budget. `Step` steps a record where it is
 // kept; a traced step is a run with a budget of 1.
-#[derive(Drop)]
+#[derive(Clone, Copy)]
 pub enum Form {
     Step,
     Words(u64),

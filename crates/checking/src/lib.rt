@@ -2,6 +2,8 @@
 // of crate `executor` are thin functions over these.
 //
 // Internal: each function takes any arguments.
+#![tactic(auto)]
+
 ghost use Rattle.std.specs.Prelude.{◌≡◌, List};
 ghost use Rattle.rules.specs.declared.Instruction.{Instruction};
 ghost use Rattle.rules.specs.Results.{Result};

@@ -1,6 +1,8 @@
 // The clock: how many steps a run may make, and what it answers after them.
 //
 // Internal, for the crates above, and for any arguments: `limit_of`, `end_answer`.
+#![tactic(auto)]
+
 ghost use Rattle.std.specs.Prelude.{◌≡◌};
 ghost use Rattle.clock.specs.Clock.{left_of, limit_of, end_answer};
 

@@ -2,6 +2,8 @@
 // here: registers, cells and tape are only read, the crate `decision` decides a whole step, and `carrying` carries effects out.
 //
 // All functions are internal, for the crates above.
+#![tactic(auto)]
+
 pub mod arithmetic;
 pub mod calls;
 pub mod control;
@@ -18,21 +20,21 @@ ghost use Rattle.effects.specs.Effects.{SetRegister, Store, Jump, LoadTape, Stor
 use rules::{Marks, Refusal};
 
 // Which run it is, and the guarded run's extras; a plain run has no marks.
-#[derive(Drop)]
+#[derive(Clone, Copy)]
 pub struct Mode {
     pub guarded: bool,
     pub extras: Marks,
 }
 
 // How many cells, tape values and output values are used.
-#[derive(Drop)]
+#[derive(Clone, Copy)]
 pub struct Counts {
     pub cells: usize,
     pub tape: usize,
     pub output: usize,
 }
 
-#[derive(Drop)]
+#[derive(Clone, Copy)]
 pub enum EffectKind {
     SetRegister,
     SetProduct,
@@ -51,7 +53,7 @@ pub enum EffectKind {
 // is a register, or a place among cells or on the tape; `next` is the pc after the step; `flag` is the mark of a number from a cell, or of
 // op0 of a product, which counts only in a guarded run, or whether a call delegates; `op0` and `op1` are those of a product. A present
 // cell's address says only what is meant. The moment of what is stored is not here: it is the clk before the step.
-#[derive(Drop)]
+#[derive(Clone, Copy)]
 pub struct Effect {
     pub kind: EffectKind,
     pub place: usize,

@@ -13,7 +13,7 @@ use hardware::regions::Region;
 use rules::Refusal;
 
 // A store's tests pass, or one refuses.
-#[derive(Drop)]
+#[derive(Clone, Copy)]
 pub(crate) enum Tested {
     Passes,
     Refused(Refusal),

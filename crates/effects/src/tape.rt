@@ -17,7 +17,7 @@ use hardware::regions::Region;
 use rules::Refusal;
 
 // Where a span's first cell is, or its refusal.
-#[derive(Drop)]
+#[derive(Clone, Copy)]
 pub(crate) enum SpanFound {
     At(usize),
     Refused(Refusal),

@@ -1,6 +1,8 @@
 // Eight characters in one word, the first in the highest byte, read as the hexadecimal number of their digits: all eight at once.
 //
 // Public: `number`, `packed`.
+#![tactic(auto)]
+
 ghost use Rattle.std.specs.Prelude.{◌≡◌, ◌+◌, ◌*◌, [], ◌∷◌};
 ghost use Rattle.eight_digits.specs.EightDigits.{characters, eight_digits};
 

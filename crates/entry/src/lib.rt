@@ -1,6 +1,8 @@
 // The tests of refusal 3 on what a caller hands in. They look at the used elements of each buffer only, and write nothing.
 //
 // Internal, for the crates above, and for any arguments: `accepts`, and `accepts_marks` for what only a guarded run has.
+#![tactic(auto)]
+
 ghost use Rattle.std.specs.Prelude.{◌≡◌, not, ◌||◌, List, map, ℕ, ltb, leb, eqb, take};
 ghost use Rattle.rules.specs.Numbers.{p};
 ghost use Rattle.rules.specs.Entry.{every, rising_from, low_bits, marked_below, plain_entry, marks_entry};

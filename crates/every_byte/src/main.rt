@@ -1,6 +1,8 @@
 // The program `every_byte`: each of the 256 bytes at each of the 16 places of three words. Each is read by `hexadecimal::word`, as a budget
 // line and as a frame's second word. A line is printed of each that one of the three takes: the word that was read, and which of the two
 // texts are accepted.
+#![tactic(auto)]
+
 ghost use Rattle.std.specs.Prelude.{◌<◌};
 
 use libc::STDOUT_FILENO;

@@ -1,5 +1,7 @@
 // The public calls: the plain ones in `plain`, the guarded ones in `guarded`, both thin functions over the core in crates
 // `calling` and `checking`; and `solve`, from its input to the lines that it prints.
+#![tactic(auto)]
+
 pub mod guarded;
 pub mod plain;
 

@@ -2,6 +2,8 @@
 //
 // Public, for any numbers: `GoldilocksField::from_canonical_u64`, and the functions `add`, `mul` and `complement`. The methods of the
 // same names are the crate's own, for elements that were tested. Numbers in, numbers out: nothing is touched.
+#![tactic(auto)]
+
 mod wide;
 
 ghost use Rattle.std.specs.Prelude.{◌≡◌, ◌&&◌, ◌<◌};
@@ -12,13 +14,13 @@ ghost use Rattle.goldilocks.specs.Elements.{element_where};
 use wide::Wide;
 
 // An element, by its number.
-#[derive(Drop)]
+#[derive(Clone, Copy)]
 pub struct GoldilocksField {
     pub value: u64,
 }
 
 // An element, or that a number is none.
-#[derive(Drop)]
+#[derive(Clone, Copy)]
 pub enum FieldElement {
     Element(GoldilocksField),
     NotInField,

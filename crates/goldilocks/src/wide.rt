@@ -6,7 +6,7 @@ ghost use Rattle.rules.specs.Field.{field_add};
 use crate::GoldilocksField;
 
 // The number high * 2^64 + low.
-#[derive(Drop)]
+#[derive(Clone, Copy)]
 pub(crate) struct Wide {
     high: u64,
     low: u64,

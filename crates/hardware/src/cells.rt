@@ -11,14 +11,14 @@ use goldilocks::GoldilocksField;
 use rules::Held;
 
 // Where an address is, or where it would go.
-#[derive(Drop)]
+#[derive(Clone, Copy)]
 pub enum Found {
     At(usize),
     Absent(usize),
 }
 
 // What stands at an address. A mark is told only in a guarded run.
-#[derive(Drop)]
+#[derive(Clone, Copy)]
 pub enum Cell {
     Present {
         number: u64,
@@ -34,7 +34,7 @@ impl Cell {
 }
 
 // Where the first of a span's cells is, if all are present.
-#[derive(Drop)]
+#[derive(Clone, Copy)]
 pub enum Span {
     At(usize),
     Absent,

@@ -2,5 +2,7 @@
 //
 // All functions are internal, for the crates above. In a run only they and those of `storing` touch the cells' buffers; they know of no
 // register and no program.
+#![tactic(auto)]
+
 pub mod cells;
 pub mod regions;

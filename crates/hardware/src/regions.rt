@@ -5,7 +5,7 @@ ghost use Rattle.hardware.specs.Regions.{region_of};
 use goldilocks::GoldilocksField;
 
 // Where an address lies. Nothing is ever present in the prophet region, and from p on there is no memory.
-#[derive(Drop)]
+#[derive(Clone, Copy)]
 pub enum Region {
     Stack,
     Heap,

@@ -1,6 +1,8 @@
 // Words as text, in the digits 0-9a-f: `digit` and `word` read, `put_shortest` and `put_16` write into a buffer that the caller lends, and
 // touch nothing else. All four are public and take any arguments.
 // Internal, for the crates above: `eight`. The other functions are private.
+#![tactic(auto)]
+
 ghost use Rattle.std.specs.Prelude.{◌≡◌, ◌+◌, ◌<◌, ◌≤◌, length, take, drop};
 ghost use Rattle.rules.specs.Hexadecimal.{digit_of, digits_of, word_of, digit_char, low_digits, digits16, digit_count, shortest_hex};
 ghost use Rattle.hexadecimal.specs.Writing.{Writes};
@@ -53,7 +55,7 @@ pub fn word(s: &[u8], at: usize) -> HexWord
 }
 
 // What writing into a buffer gives: the place after the last character, or no space, and then nothing is written.
-#[derive(Drop)]
+#[derive(Clone, Copy)]
 pub enum Put {
     Next(usize),
     NoSpace,

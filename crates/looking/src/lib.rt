@@ -1,6 +1,8 @@
 // What a traced step looks at before it is made: CALL's further cell, and the numbers of op0 and op1.
 //
 // Internal, for the crate above: `look`, `mode`.
+#![tactic(auto)]
+
 ghost use Rattle.std.specs.Prelude.{◌≡◌, false, List, ℕ, ◌+◌, ◌%◌, ◌≤◌, length};
 ghost use Rattle.rules.specs.Opcodes.{class_of};
 ghost use Rattle.rules.specs.Cells.{number_cells};
@@ -24,7 +26,7 @@ use rules::{Machine, Marks, OlaOpcode};
 use sheets::Present;
 
 // What is seen: is CALL's further cell absent; what a line shows of op0 and op1; and the register that dst is, where it is present.
-#[derive(Drop)]
+#[derive(Clone, Copy)]
 pub struct Sight {
     pub unread: bool,
     pub present: Present,

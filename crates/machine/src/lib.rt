@@ -5,6 +5,8 @@
 // record and the buffers that they are lent. `lend_and_step` and `lend_and_step_guarded` lend a record of their own to these two: they are
 // for callers that have a record by value. Demand 3 of the guarded two is `NonInterferingInPlace` (specs/GuardedStepsInPlace.antt, proved in
 // proofs/GuardedStepsHold.antt).
+#![tactic(auto)]
+
 ghost use Rattle.std.specs.Prelude.{◌≡◌};
 ghost use Rattle.rules.specs.Calls.{plain_words, guarded_words};
 ghost use Rattle.rules.specs.Handed.{snapshot, called, guarded_called, no_marks};
@@ -13,14 +15,14 @@ ghost use Rattle.machine.specs.Stepping.{stepped, record_snapshot, guarded_stepp
 use rules::{Answer, Machine, Marks, Ran};
 
 // A machine and a guarded run's extras.
-#[derive(Drop)]
+#[derive(Clone, Copy)]
 pub struct GuardedMachine {
     pub machine: Machine,
     pub extras: Marks,
 }
 
 // What a step answered, and the steps done: 1 where the step stands, else 0.
-#[derive(Drop)]
+#[derive(Clone, Copy)]
 pub struct Answered {
     pub answer: Answer,
     pub steps: u64,

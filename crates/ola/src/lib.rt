@@ -13,6 +13,8 @@
 // Each function takes any arguments and answers, and touches nothing but what it is lent. A call refused at entry writes its answer and
 // leaves the rest: the records of machine and extras are written anew and are what they were (`RecordsKept` of crate records).
 // include/ola.h is the same for a person.
+#![tactic(auto)]
+
 mod guarded_calls;
 mod plain_calls;
 mod traced_calls;

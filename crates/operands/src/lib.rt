@@ -1,13 +1,15 @@
 // The operands of an instruction that have to be computed or are refused, and the marks of registers.
 //
 // Internal, for the crates above: `values::compute`, `marks::{is_any, is_product_marked, with_mark}`.
+#![tactic(auto)]
+
 pub mod marks;
 pub mod values;
 
 use rules::Refusal;
 
 // The operands stand at their slots, or one is refused.
-#[derive(Drop)]
+#[derive(Clone, Copy)]
 pub enum Computed {
     Ready,
     Refused(Refusal),

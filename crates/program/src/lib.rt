@@ -4,6 +4,8 @@
 // Public: `binary_program::{frame_length, decode}`, `table::check_words`.
 // Internal, for the crates above: `table::{load_words, row_at}`, and the methods of `table::Row`, which tell its pc or take a number from
 // it.
+#![tactic(auto)]
+
 pub mod binary_program;
 pub mod slots;
 pub mod table;

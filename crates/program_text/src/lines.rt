@@ -10,7 +10,7 @@ use program::binary_program::{FRAME_LIMIT, WORD_LIMIT, frame_length};
 use rules::{HexWord, Refusal};
 
 // What a line holds: the words of a frame, or it is malformed.
-#[derive(Drop)]
+#[derive(Clone, Copy)]
 pub(crate) enum Line {
     Words(usize),
     Malformed,

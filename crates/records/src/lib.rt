@@ -2,6 +2,8 @@
 // and that nothing is lost in a record (`RecordsRead`).
 //
 // Internal, for crate `ola`, and for any arguments.
+#![tactic(auto)]
+
 ghost use Rattle.std.specs.Prelude.{◌≡◌};
 ghost use Rattle.rules.specs.Answers.{meaning};
 ghost use Rattle.records.specs.Records.{machine_of, machine_record, marks_of, marks_record, callee_of, answer_record};

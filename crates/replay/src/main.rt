@@ -1,4 +1,6 @@
 // The program `replay`: plays the cases of its standard input (crates/transcript).
+#![tactic(auto)]
+
 fn main() {
     transcript::play_input();
 }

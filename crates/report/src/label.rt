@@ -6,7 +6,7 @@ ghost use Rattle.report.specs.ReportLines.{Labels, is_entry_label};
 use rules::{Answer, Refusal};
 
 // An outcome or a refusal, by its number; refusal 2 by its frame.
-#[derive(Drop)]
+#[derive(Clone, Copy)]
 pub enum Label {
     Outcome(u8),
     Refusal(u8),

@@ -3,6 +3,8 @@
 //
 // Public: `used_output`, `kilosteps`, `print`.
 // Internal, for the crates above: `label::label_of`, the one table of numbers.
+#![tactic(auto)]
+
 pub mod label;
 mod lines;
 

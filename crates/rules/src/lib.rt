@@ -1,7 +1,8 @@
 // The Ola step machine's types. What they mean stands in specs/, theorems about it in proofs/; there is no code.
+#![tactic(auto)]
 
 // Opcodes, in the source's order: a frame holds an opcode's place.
-#[derive(Drop)]
+#[derive(Clone, Copy)]
 pub enum OlaOpcode {
     Add,
     Mul,
@@ -33,7 +34,7 @@ pub enum OlaOpcode {
 }
 
 // An operand, by the kind that a frame gives it. Registers are R0 to R9.
-#[derive(Drop)]
+#[derive(Clone, Copy)]
 pub enum OlaOperand {
     Absent,
     Immediate(u64),
@@ -44,7 +45,7 @@ pub enum OlaOperand {
     Pc,
 }
 
-#[derive(Drop)]
+#[derive(Clone, Copy)]
 pub struct Instruction {
     pub opcode: OlaOpcode,
     pub op0: OlaOperand,
@@ -53,21 +54,21 @@ pub struct Instruction {
 }
 
 // What a frame's words are: an instruction, or malformed.
-#[derive(Drop)]
+#[derive(Clone, Copy)]
 pub enum Frame {
     Holds(Instruction),
     Malformed,
 }
 
 // What sixteen characters are: a word, or not digits.
-#[derive(Drop)]
+#[derive(Clone, Copy)]
 pub enum HexWord {
     Word(u64),
     NotHex,
 }
 
 // The refusals that a plain run can give, in the order of their numbers, 1 to 17.
-#[derive(Drop)]
+#[derive(Clone, Copy)]
 pub enum Refusal {
     BadLength,
     MalformedFrame(u64),
@@ -90,7 +91,7 @@ pub enum Refusal {
 
 // A run's outcome, e0 to e3, or its refusal. A calling outcome carries the callee's address. `MarkedSink` is refusal 18, which only a
 // guarded run gives, `ShortBuffer` is refusal 19, which only a traced run gives.
-#[derive(Drop)]
+#[derive(Clone, Copy)]
 pub enum Answer {
     Ended,
     Calling(u64, u64, u64, u64),
@@ -103,14 +104,14 @@ pub enum Answer {
 
 // What a present cell holds: its number, and its moment, which is the clk before the step that last wrote it; a cell that is handed in
 // brings its own.
-#[derive(Drop)]
+#[derive(Clone, Copy)]
 pub struct Held {
     pub number: u64,
     pub moment: u64,
 }
 
 // The state that is no buffer, and how much of each buffer is used.
-#[derive(Drop)]
+#[derive(Clone, Copy)]
 pub struct Machine {
     pub registers: [u64; 10],
     pub pc: u64,
@@ -123,13 +124,13 @@ pub struct Machine {
 }
 
 // What a guarded run has beside the machine and the buffers: bit r of `registers` is the mark of register r.
-#[derive(Drop)]
+#[derive(Clone, Copy)]
 pub struct Marks {
     pub registers: u64,
 }
 
 // What a run gives: its answer, its steps, and the machine and marks that it leaves. A plain run leaves no marks.
-#[derive(Drop)]
+#[derive(Clone, Copy)]
 pub struct Ran {
     pub answer: Answer,
     pub steps: u64,

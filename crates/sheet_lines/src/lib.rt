@@ -1,6 +1,8 @@
 // A line of a sheet: which numbers it has, its 16 words, and their text.
 //
 // Internal, for the crate above: `present_of`, `line_words`, `put_line`.
+#![tactic(auto)]
+
 ghost use Rattle.std.specs.Prelude.{◌≡◌, suc, ◌+◌, ◌*◌, ◌≤◌, length};
 ghost use Rattle.hexadecimal.specs.Writing.{overlay_at};
 ghost use Rattle.rules.specs.Opcodes.{class_of};

@@ -5,7 +5,7 @@ ghost use Rattle.solve.specs.Reading.{bytes_read};
 use libc::{STDERR_FILENO, STDIN_FILENO};
 
 // How many bytes stand at the buffer's start, or that a read failed, for which errno has the reason.
-#[derive(Drop)]
+#[derive(Clone, Copy)]
 pub(crate) enum Read {
     Bytes(usize),
     Failed,

@@ -1,5 +1,7 @@
 // The program `solve`: reads a budget line and frames from standard input, runs the machine, and prints what came of it. All but reading,
 // writing and the arguments is `executor::solve`. The language gives no exit status: what went wrong is told on standard error.
+#![tactic(auto)]
+
 mod arguments;
 mod help;
 mod input;

@@ -4,6 +4,8 @@
 // Public: `run_words`, `run_text`, `run_budget_text`. Each takes any arguments, checks them as a plain call does, and answers. They touch
 // nothing but the buffers that they are lent; the sheet is filled from its start, and what stands behind its lines stays. The other
 // functions are private or internal to the crate.
+#![tactic(auto)]
+
 mod stepping;
 
 ghost use Rattle.std.specs.Prelude.{◌≡◌, ◌+◌, ◌≤◌, length};

@@ -1,6 +1,8 @@
 // Transcripts: cases in, what the library did with them out, in the format of conformance/FORMAT.md. A line that is not understood is
 // repeated after `? `. The programs `cases`, `replay` and `vectors` are this on three inputs. Standard input is read, standard output
 // written.
+#![tactic(auto)]
+
 mod input;
 mod lines;
 mod runs;

@@ -5,14 +5,14 @@ use Prim.Native.Nat.{ℕ, ◌/◌}
 use native.Mathlib.Omega.{arith}
 use lib.Bits.{bit_and, and_le_r}
 use Rattle.rules.specs.declared.HexWord.TheVariants.{Word}
-use Rattle.eight_digits.proofs.Bytewise.{digits_of, digits, enough, past-lt, no_number, a-number, its-digits, digits_le}
+use Rattle.eight_digits.proofs.Bytewise.{digits_in, digits, enough, past-lt, no_number, a-number, its-digits, digits_le}
 use Rattle.eight_digits.proofs.Squeeze.{pack, gather, moved}
 use Rattle.eight_digits.proofs.number.Statement.{statement}
 use Rattle.eight_digits.proofs.number.Tie as tie
 
 -- the words of the last three steps
 abbrev twos-of : ℕ → ℕ
-twos-of w = bit_and (moved 16 (digits_of w)) 0x00ff_00ff_00ff_00ff
+twos-of w = bit_and (moved 16 (digits_in w)) 0x00ff_00ff_00ff_00ff
 
 abbrev fours-of : ℕ → ℕ
 fours-of w = bit_and (moved 256 (twos-of w)) 0x0000_ffff_0000_ffff
@@ -20,10 +20,10 @@ fours-of w = bit_and (moved 256 (twos-of w)) 0x0000_ffff_0000_ffff
 abbrev eight-of : ℕ → ℕ
 eight-of w = bit_and (moved 65536 (fours-of w)) 0xffff_ffff
 
-gathered : (w : ℕ) → digits_of w ≡ pack 256 (digits 8 w) → eight-of w ≡ pack 16 (digits 8 w)
+gathered : (w : ℕ) → digits_in w ≡ pack 256 (digits 8 w) → eight-of w ≡ pack 16 (digits 8 w)
 unfolding digits
 gathered w e =
-    gather _ _ _ _ _ _ _ _ (omega arith) (omega arith) (omega arith) (omega arith) (omega arith) (omega arith) (omega arith) (omega arith) (digits_of w) e
+    gather _ _ _ _ _ _ _ _ (omega arith) (omega arith) (omega arith) (omega arith) (omega arith) (omega arith) (omega arith) (omega arith) (digits_in w) e
 
 mul-moved : tie.Need-overflow-mul-moved
 mul-moved c = omega (arith, and_le_r (c.args.w / 64) 0x0101_0101_0101_0101)
@@ -41,7 +41,7 @@ add-twos : tie.Need-overflow-add-twos
 add-twos c = omega (arith, digits_le c.before.args.w c.before.ranges.w.fits c.if1.false)
 
 add-fours : tie.Need-overflow-add-fours
-add-fours c = omega (arith, and_le_r (moved 16 (digits_of c.before.args.w)) 0x00ff_00ff_00ff_00ff)
+add-fours c = omega (arith, and_le_r (moved 16 (digits_in c.before.args.w)) 0x00ff_00ff_00ff_00ff)
 
 add-t10 : tie.Need-overflow-add-t10
 add-t10 c = omega (arith, and_le_r (moved 256 (twos-of c.before.args.w)) 0x0000_ffff_0000_ffff)
