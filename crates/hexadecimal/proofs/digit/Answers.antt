@@ -7,19 +7,19 @@ use Rattle.hexadecimal.proofs.Digits.{decimal, letter, below-decimal, between, a
 use Rattle.hexadecimal.proofs.digit.Goals as goal
 
 pub returns-in-48-to-57 : goal.returns-in-48-to-57
-returns-in-48-to-57 c = sym (decimal c.args.c c.if-c-lt48.false c.in-48-to-57.if-c-lt58-own.true)
+returns-in-48-to-57 c = sym (decimal c.args.c (omega arith) (omega arith))
 
 pub returns-in-97-to-102 : goal.returns-in-97-to-102
 returns-in-97-to-102 c =
     let a = c.args in
     let e : a.c - 97 + 10 ≡ a.c - 87 = omega arith in
-    ap Word e ∙ sym (letter a.c c.if-c-lt97.false c.in-97-to-102.if-c-lt103-own.true)
+    ap Word e ∙ sym (letter a.c (omega arith) (omega arith))
 
 pub returns-in_default : goal.returns-in_default
-returns-in_default c = sym (below-decimal c.args.c c.in_default.if-c-lt48-own.true)
+returns-in_default c = sym (below-decimal c.args.c (omega arith))
 
 pub returns-in_default-2 : goal.returns-in_default-2
-returns-in_default-2 c = sym (between c.args.c c.if-c-lt58.false c.in_default.if-c-lt97-own.true)
+returns-in_default-2 c = sym (between c.args.c (omega arith) (omega arith))
 
 pub returns-in_default-3 : goal.returns-in_default-3
-returns-in_default-3 c = sym (above-letter c.args.c c.in_default.if-c-lt103-own.false)
+returns-in_default-3 c = sym (above-letter c.args.c (omega arith))

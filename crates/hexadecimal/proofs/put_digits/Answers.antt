@@ -10,11 +10,16 @@ use Rattle.rules.specs.Hexadecimal.{low_digits}
 use Rattle.hexadecimal.specs.Writing.{overlay_at}
 use Rattle.hexadecimal.proofs.Writing.{digit-stored, digits-refused, digits-written}
 use Rattle.hexadecimal.proofs.put_digits.Goals as goal
+use Rattle.hexadecimal.proofs.put_digits.Goals.{then-buffer-n-via-then-buffer-n, then-buffer-n-via-else-buffer-n+then-buffer-n-2}
 
 pub returns-then-buffer-n : goal.returns-then-buffer-n
 returns-then-buffer-n c =
     let a = c.args in
-    let h : length a.buffer.now < a.at + a.n = ⊎_elim (λ w. omega arith) (λ w. omega (arith, ltb-true)) c.then-buffer-n.either in
+    let h : length a.buffer.now < a.at + a.n =
+        elim c.then-buffer-n.branch [
+          then-buffer-n-via-then-buffer-n w ↦ omega arith
+        | then-buffer-n-via-else-buffer-n+then-buffer-n-2 w ↦ omega (arith, ltb-true)
+        ] in
     digits-refused a.buffer.now a.at a.n a.v h
 
 pub loop-left-init : goal.loop-left-init

@@ -9,12 +9,17 @@ use Rattle.rules.specs.declared.HexWord.TheVariants.{Word}
 use Rattle.rules.specs.Hexadecimal.{digits_of}
 use Rattle.hexadecimal.proofs.Reading.{too_short, first-none, second_none, both, half_lt}
 use Rattle.hexadecimal.proofs.word.Goals as goal
+use Rattle.hexadecimal.proofs.word.Goals.{then-s-lt16-via-then-s-lt16, then-s-lt16-via-else-s-lt16+then-s-at}
 use Rattle.hexadecimal.proofs.word.Goals.{Else-s-at, In-Word, In-Word-eight}
 
 pub returns-then-s-lt16 : goal.returns-then-s-lt16
 returns-then-s-lt16 c =
     let a = c.args in
-    let h : length a.s.now < a.at + 16 = ⊎_elim (λ w. omega arith) (λ w. omega (arith, ltb-true)) c.then-s-lt16.either in
+    let h : length a.s.now < a.at + 16 =
+        elim c.then-s-lt16.branch [
+          then-s-lt16-via-then-s-lt16 w ↦ omega arith
+        | then-s-lt16-via-else-s-lt16+then-s-at w ↦ omega (arith, ltb-true)
+        ] in
     sym (too_short a.s.now a.at h)
 
 -- past the tests sixteen characters are there
@@ -37,7 +42,7 @@ module _ (c : In-Word) where
   high_lt : c.in-Word.high < 2 ^ 32
   high_lt =
       let a = c.args in
-      let l = inside ⟪c.before.before.before⟫ in
+      let l : a.at + 16 ≤ length a.s.now = omega (arith, ltb-false) in
       half_lt a.s.now a.at c.in-Word.high (omega arith) high_is
 
 pub overflow_add-at : goal.overflow_add-at
@@ -59,7 +64,7 @@ module _ (c : In-Word-eight) where
   low-lt : c.in-Word-eight.low < 2 ^ 32
   low-lt =
       let a = c.args in
-      let l = inside ⟪f.before.before.before⟫ in
+      let l : a.at + 16 ≤ length a.s.now = omega (arith, ltb-false) in
       half_lt a.s.now (a.at + 8) c.in-Word-eight.low (omega arith) low-is
 
 pub overflow_mul-result : goal.overflow_mul-result

@@ -101,7 +101,9 @@ overflow_add-passed-in-loop-left-12 c = omega (arith, counted (goal.at.overflow_
 round : (c : In-loop-left)
     → let s = c.args in
     let l = c.loop-left in
-    invariant-loop s.used.now s.address 0 (length s.used.now) (l.low + passed s.used.now s.address l.low (l.left / 8) 6 * (l.left / 8)) (l.left - 7 * (l.left / 8))
+    let low = l.low + passed s.used.now s.address l.low (l.left / 8) 6 * (l.left / 8) in
+    let left = l.left - 7 * (l.left / 8) in
+    (low ≤ last_at_most s.used.now s.address) × (rank s.used.now (suc s.address) ≤ low + left) × (low + left ≤ length s.used.now)
 round c =
     let l = c.loop-left in
     eighth c.args.used.now c.args.address l.low (l.left / 8) c.requires l.invariant.0 l.left (omega arith) (omega arith) l.invariant.1 l.invariant.2
