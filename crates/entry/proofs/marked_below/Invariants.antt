@@ -1,0 +1,15 @@
+-- `entry::marked_below` meets its contract. The loop's invariant: whether all marked numbers are below p is whether those from place i on are.
+use mathlib.Core.Path.{◌≡◌, refl, sym, ◌∙◌}
+use Prim.Native.Nat.{◌-◌, ◌≤◌}
+use native.Mathlib.Omega.{arith}
+use lib.ListN.{length, drop}
+use borrow.Author.Tests.{not-true, not-false}
+use Rattle.rules.specs.Entry.{marked_below}
+use Rattle.entry.proofs.Elements.{marked, marked-end, cells-more, cells-fail, cells-end}
+use Rattle.entry.proofs.marked_below.Given as goal
+
+abbrev pub invariant-loop-i : goal.invariant-loop-i
+invariant-loop-i l = (l.i ≤ length l.marks) × (marked_below (marked l.marks) l.numbers ≡ marked_below (marked (drop l.i l.marks)) (drop l.i l.numbers))
+
+abbrev pub decreases-loop-i : goal.decreases-loop-i
+decreases-loop-i l = length l.marks - l.i

@@ -1,0 +1,81 @@
+-- `storing::cells::store_many` meets its contract: where all cells are present only their contents change, else they are put in.
+use mathlib.Core.Path.{refl, sym, ◌∙◌}
+use Prim.Native.Nat.{◌+◌, ◌≤◌}
+use native.Mathlib.Omega.{arith}
+use lib.ListN.{length, take}
+use lib.Seq.{length-take-le}
+use Rattle.rules.specs.Numbers.{word_end}
+use Rattle.hardware.specs.Buffers.{missing}
+use Rattle.hardware.proofs.BufferLaws.{span-at, span-ends}
+use Rattle.storing.proofs.OverwriteLaws.{within-words, overwritten-holds}
+use Rattle.storing.proofs.InsertLaws.{places-for, count-stored, places-hold}
+use Rattle.storing.proofs.cells.store_many.Goals as goal
+use Rattle.storing.proofs.cells.store_many.Goals.{Start}
+
+fits : (c : Start)
+    → c.args.count + missing (take c.args.count c.args.addresses.now) c.args.start (length c.args.values.now)
+    ≤ length c.args.addresses.now
+fits c =
+    let a = c.args in
+    let o = c.requires.ordered in
+    let e = count-stored a.count a.addresses.now a.numbers.now a.moments.now o.addresses o.level o.moment_level a.moment a.start
+    a.values.now in
+    omega (arith, c.requires.values_in_bounds)
+
+pub find_span-requires : goal.find_span-requires
+unfolding word_end
+find_span-requires c = record {
+      rising = c.requires.ordered.addresses;
+      n_bound = within-words c.args.start (length c.args.values.now) (omega arith) c.requires.values_bound;
+    }
+
+pub overwrite-requires : goal.overwrite-requires
+overwrite-requires c =
+    let a = c.args in
+    let o = c.requires.ordered in
+    let f = span-at _ a.start (length a.values.now) _ (sym c.find_span.ensures ∙ c.in-At.is) in
+    let w = span-ends a.count a.addresses.now o.addresses a.start _ f.1 (length a.values.now) f.0 in
+ record {
+      values_in_bounds = omega (arith, w, o.addresses.within, o.level);
+      moments_len = o.moment_level ∙ sym o.level;
+      marks_len = λ t. o.mark_level t ∙ sym o.level;
+    }
+
+pub slice_bounds-rank_of-end-in-Absent : goal.slice_bounds-rank_of-end-in-Absent
+slice_bounds-rank_of-end-in-Absent c = sym (length-take-le _ _ c.requires.ordered.addresses.within)
+
+pub insert_span-used-requires : goal.insert_span-used-requires
+unfolding word_end
+insert_span-used-requires c =
+    let l = c.rank_of-low.ensures in
+ record {
+      ordered = c.requires.ordered;
+      low_value = l;
+      n_bound = within-words c.args.start (length c.args.values.now) (omega arith) c.requires.values_bound;
+      n_in_bounds = fits (goal.at.insert_span-used-requires c).Start;
+    }
+
+pub overwrite-requires-in-Absent : goal.overwrite-requires-in-Absent
+overwrite-requires-in-Absent c =
+    let a = c.args in
+    let o = c.requires.ordered in
+    let l = c.rank_of-low.ensures in
+    let r = places-for a.count a.addresses.now o.addresses a.start (length a.values.now) _ _ l refl (fits (goal.at.overwrite-requires-in-Absent c).Start) in
+    (omega (arith, o.level), (omega (arith, o.level, o.moment_level), λ t. omega (arith, o.level, o.mark_level t)))
+
+pub returns-in-At : goal.returns-in-At
+returns-in-At c =
+    let a = c.args in
+    let f = span-at _ a.start (length a.values.now) _ (sym c.find_span.ensures ∙ c.in-At.is) in
+    let w = c.overwrite.ensures in
+    overwritten-holds a.guarded a.count a.addresses.now a.numbers.now a.moments.now a.marks.now c.requires.ordered a.start _ f.1
+    a.values.now f.0 a.moment _ _ _ w.0 w.1.0 w.1.1
+
+pub returns-in-Absent : goal.returns-in-Absent
+returns-in-Absent c =
+    let a = c.args in
+    let m = c.insert_span-used.ensures in
+    let w = c.overwrite-in-Absent.ensures in
+    let l = c.rank_of-low.ensures in
+    places-hold a.guarded a.count a.addresses.now a.numbers.now a.moments.now a.marks.now c.requires.ordered a.start a.values.now _ l
+    (fits (goal.at.returns-in-Absent c).Start) a.moment _ _ _ _ _ _ _ _ m.0 m.1.0 m.1.1.0 m.1.1.1.0 m.1.1.1.1 w.0 w.1.0 w.1.1
