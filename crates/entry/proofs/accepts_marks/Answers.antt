@@ -10,6 +10,15 @@ use Rattle.entry.proofs.Elements.{marked}
 use Rattle.entry.proofs.accepts_marks.Goals as goal
 use Rattle.entry.proofs.accepts_marks.Goals.{After-marked_below}
 
+pub returns-then-marks-addresses : goal.returns-then-marks-addresses
+returns-then-marks-addresses c moments tape output = sym (marks-uneven _ (λ e. omega arith))
+
+pub returns-then-extras-ge-MARKS_END : goal.returns-then-extras-ge-MARKS_END
+returns-then-extras-ge-MARKS_END c moments tape output = sym (registers-beyond _ (omega arith))
+
+pub returns-then-not-registers_below : goal.returns-then-not-registers_below
+returns-then-not-registers_below c moments tape output = sym (register-above _ (sym c.registers_below.ensures ∙ not-true _ c.if-not-registers_below.true-raw))
+
 -- what `marked_below` answers
 cells-below : (c : After-marked_below)
     → let a = c.args in
@@ -18,27 +27,14 @@ cells-below : (c : After-marked_below)
 cells-below c =
     c.marked_below.ensures ∙ ap₂ (λ ts ns. marked_below (marked ts) ns) c.used-used_marks.ensures c.used.ensures
 
--- ODD
--- returns : tie.Need-returns
--- returns c moments tape output = sym (marks-uneven _ (λ e. omega arith))
--- ODD
--- returns-2 : tie.Need-returns-2
--- returns-2 c moments tape output = sym (registers-beyond _ (omega arith))
--- ODD
--- returns-3 : tie.Need-returns-3
--- returns-3 c moments tape output = sym (register-above _ (sym c.before.registers-below.ensures ∙ not-true _ c.if3.true))
--- ODD
--- returns-4 : tie.Need-returns-4
--- returns-4 c moments tape output = sym (cell-above _ (sym (cells-below c.before) ∙ not-true _ c.if4.true))
--- ODD
--- returns-5 : tie.Need-returns-5
--- returns-5 c moments tape output =
---     let t = c.before in
---     let u = t.before.before.before in
---     let r = u.before in
---     marks-decide _
---     (omega arith)
---     (omega arith)
---     (sym r.before.registers-below.ensures ∙ not-false _ r.if3.false)
---     (sym (cells-below t.before) ∙ not-false _ t.if4.false)
---     (c.at_most.ensures ∙ ap (every (λ t. leb t 1)) u.used.ensures)
+pub returns-then-not-marked_below : goal.returns-then-not-marked_below
+returns-then-not-marked_below c moments tape output = sym (cell-above _ (sym (cells-below (goal.at.returns-then-not-marked_below c).After-marked_below) ∙ not-true _ c.if-not-marked_below.true-raw))
+
+pub returns : goal.returns
+returns c moments tape output =
+    marks-decide _
+    (omega arith)
+    (omega arith)
+    (sym c.registers_below.ensures ∙ not-false _ c.if-not-registers_below.false-raw)
+    (sym (cells-below (goal.at.returns c).After-marked_below) ∙ not-false _ c.if-not-marked_below.false-raw)
+    (c.at_most.ensures ∙ ap (every (λ t. leb t 1)) c.used-used_marks.ensures)
