@@ -5,8 +5,7 @@ use mathlib.Core.Bool.{Bool, true, false, not, ◌&&◌, ◌||◌}
 use lib.Dec.{eqb}
 use Rattle.rules.specs.Guarded.{product_mark}
 use Rattle.rules.proofs.Laws.BoolLaws.{and-with-true, and-with-false}
-use Rattle.operands.proofs.marks.is_product_marked.Statement.{statement}
-use Rattle.operands.proofs.marks.is_product_marked.Tie as tie
+use Rattle.operands.proofs.marks.is_product_marked.Goals as goal
 
 op0-marked : (n : Bool) (a b : ℕ) → (n || not (eqb b 0)) ≡ product_mark true a n b
 op0-marked true a b = refl
@@ -20,11 +19,8 @@ op0-unmarked true a b = go (eqb a 0)
     go true = refl
     go false = refl
 
-returns : tie.Need-returns
-returns c = let a = c.before.args in rw c.if1.true (op0-marked a.op1-mark a.op0 a.op1)
+pub returns-then-op0_mark : goal.returns-then-op0_mark
+returns-then-op0_mark c = let a = c.args in rw c.if-op0_mark.true (op0-marked a.op1_mark a.op0 a.op1)
 
-returns-2 : tie.Need-returns-2
-returns-2 c = let a = c.before.args in rw c.if1.false (op0-unmarked a.op1-mark a.op0 a.op1)
-
-pub is-product-marked-spec : {M : Type 1} → statement M
-is-product-marked-spec = tie.close (tie.spec returns returns-2)
+pub returns : goal.returns
+returns c = let a = c.args in rw c.if-op0_mark.false (op0-unmarked a.op1_mark a.op0 a.op1)
