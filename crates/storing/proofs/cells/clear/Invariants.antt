@@ -1,14 +1,9 @@
 -- `storing::cells::clear` meets its contract. The loop's invariant: the first i marks are zeros.
-use Prim.Native.Nat.{ℕ, ◌-◌, ◌≤◌, zero-le}
-use mathlib.Core.Path.{◌≡◌, refl, sym, ap, ◌∙◌}
-use mathlib.Core.List.{List}
-use native.Mathlib.Omega.{arith}
-use lib.ListN.{length, set, take, length-set}
-use lib.Seq.{take_all}
+use Prim.Native.Nat.{◌-◌, ◌≤◌}
+use mathlib.Core.Path.{◌≡◌}
+use lib.ListN.{length, take}
 use Rattle.rules.specs.Step.{overlay}
 use Rattle.hardware.specs.Places.{filled}
-use Rattle.hardware.proofs.WriteLaws.{overlay-next}
-use Rattle.storing.proofs.OverwriteLaws.{length-filled, get_or-filled, overlay-all}
 use Rattle.storing.proofs.cells.clear.Given as goal
 
 abbrev pub invariant-loop-i : goal.invariant-loop-i

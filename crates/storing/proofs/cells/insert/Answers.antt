@@ -26,7 +26,11 @@ insert_at-requires c = record {
 pub insert_at-requires-then-guarded : goal.insert_at-requires-then-guarded
 insert_at-requires-then-guarded c =
     let l = c.requires.ordered.mark_level c.if-guarded.true in
-    (omega (arith, place-used (goal.at.insert_at-requires-then-guarded c).Start), omega (arith, place-used (goal.at.insert_at-requires-then-guarded c).Start, l))
+    let p = place-used (goal.at.insert_at-requires-then-guarded c).Start in
+    record {
+      at_le_count = omega (arith, p);
+      count_in_bounds = omega (arith, l);
+    }
 
 pub returns-then-guarded : goal.returns-then-guarded
 returns-then-guarded c =
@@ -34,7 +38,7 @@ returns-then-guarded c =
     let x = c.insert_at.ensures in
     let h = c.insert_held.ensures in
     inserted-holds a.guarded a.count a.addresses.now a.numbers.now a.moments.now a.marks.now c.requires.ordered c.requires.count_in_bounds a.address
-    a.number a.moment a.mark a.at c.requires.at_value _ _ _ _ x h.0 h.1 true c.if-guarded.true c.insert_at-then-guarded.ensures
+    a.number a.moment a.mark a.at c.requires.at_value _ _ _ _ x h.numbers_after h.moments_after true c.if-guarded.true c.insert_at-then-guarded.ensures
 
 pub returns-else-guarded : goal.returns-else-guarded
 returns-else-guarded c =
@@ -42,4 +46,4 @@ returns-else-guarded c =
     let x = c.insert_at.ensures in
     let h = c.insert_held.ensures in
     inserted-holds a.guarded a.count a.addresses.now a.numbers.now a.moments.now a.marks.now c.requires.ordered c.requires.count_in_bounds a.address
-    a.number a.moment a.mark a.at c.requires.at_value _ _ _ _ x h.0 h.1 false c.if-guarded.false refl
+    a.number a.moment a.mark a.at c.requires.at_value _ _ _ _ x h.numbers_after h.moments_after false c.if-guarded.false refl

@@ -1,15 +1,11 @@
 -- `storing::cells::insert_held` meets its contract. The loop's invariant: in each buffer some element is put in at i, among the first elements
 -- as they were.
-use Prim.Native.Nat.{ℕ, ◌-◌, ◌≤◌, ◌<◌}
-use mathlib.Core.Path.{◌≡◌, refl, ap, ◌∙◌}
+use Prim.Native.Nat.{ℕ, ◌≤◌}
+use mathlib.Core.Path.{◌≡◌}
 use mathlib.Core.List.{List}
-use native.Mathlib.Nat.{le_refl}
-use native.Mathlib.Omega.{arith}
-use lib.ListN.{length, get_or, set, take, length-set}
-use lib.Seq.{length-take-le}
+use lib.ListN.{length, take}
 use Rattle.rules.specs.Step.{overlay}
 use Rattle.hardware.specs.Places.{insert_at}
-use Rattle.hardware.proofs.WriteLaws.{insert-start, insert-shift, insert-last}
 use Rattle.storing.proofs.cells.insert_held.Given as goal
 
 -- a buffer with some element put in at i

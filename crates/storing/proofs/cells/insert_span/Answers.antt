@@ -22,30 +22,27 @@ overflow_add-start c = omega arith
 
 -- where the end of the places was found
 module _ (c : After-rank_of-high) where
-  abbrev entry : tie.Start
-  entry = ⟪c.before.before.before.before.before.before⟫
-
   abbrev high : ℕ
-  high = rank (take entry.args.count entry.args.addresses.now) (entry.args.start + entry.args.n)
+  high = rank (take c.args.count c.args.addresses.now) (c.args.start + c.args.n)
 
-  found : PlacesFor entry.args.count entry.args.addresses.now entry.args.start entry.args.n entry.args.low c.rank_of-high.result
+  found : PlacesFor c.args.count c.args.addresses.now c.args.start c.args.n c.args.low c.rank_of-high.result
   found =
-      let a = entry.args in
-      let o = entry.pre in
-      places-for a.count a.addresses.now o.0.addresses a.start a.n a.low c.rank_of-high.result
-      o.1.0 c.rank_of-high.ensures o.1.1.1
+      let a = c.args in
+      let o = c.requires in
+      places-for a.count a.addresses.now o.ordered.addresses a.start a.n a.low c.rank_of-high.result
+      o.low_value c.rank_of-high.ensures o.n_in_bounds
 
   -- what moves up by the new cells moves behind the places
 
   abbrev shifted : List ℕ → List ℕ
-  shifted = moved entry.args.count c.rank_of-high.result (c.rank_of-high.result + (entry.args.n - (c.rank_of-high.result - entry.args.low)))
+  shifted = moved c.args.count c.rank_of-high.result (c.rank_of-high.result + (c.args.n - (c.rank_of-high.result - c.args.low)))
 
   abbrev opened : List ℕ → List ℕ
-  opened = moved entry.args.count high (entry.args.low + entry.args.n)
+  opened = moved c.args.count high (c.args.low + c.args.n)
 
   behind : (bs : List ℕ) → shifted bs ≡ opened bs
   behind bs =
-      let a = entry.args in
+      let a = c.args in
       let r = found in
       let h = c.rank_of-high.result in
       let e : h + (a.n - (h - a.low)) ≡ a.low + a.n = omega arith in
@@ -66,8 +63,8 @@ overflow_sub-new-2 c = let r = found c in omega arith
 pub move_contents-requires : goal.move_contents-requires
 move_contents-requires c =
     let r = found (goal.at.move_contents-requires c).After-rank_of-high in
-    let o = (entry (goal.at.move_contents-requires c).After-rank_of-high).requires.0 in
- record {
+    let o = c.requires.ordered in
+    record {
       from_le_count = r.used;
       n_in_bounds = omega (arith, o.level);
       moments_len = o.moment_level ∙ sym o.level;
@@ -75,7 +72,9 @@ move_contents-requires c =
     }
 
 pub move_up-requires : goal.move_up-requires
-move_up-requires c = let r = found (goal.at.move_up-requires c).After-rank_of-high in record {
+move_up-requires c =
+    let r = found (goal.at.move_up-requires c).After-rank_of-high in
+    record {
       from_le_count = r.used;
       n_in_bounds = omega arith;
     }
@@ -89,22 +88,23 @@ offset_bounds-addresses-low c = let r = found (goal.at.offset_bounds-addresses-l
 pub overflow_add-result : goal.overflow_add-result
 overflow_add-result c = let r = found (goal.at.overflow_add-result c).After-rank_of-high in omega arith
 
+pub slice_bounds-number_cells-end : goal.slice_bounds-number_cells-end
+slice_bounds-number_cells-end c = let r = found (goal.at.slice_bounds-number_cells-end c).After-rank_of-high in omega arith
+
 pub returns : goal.returns
 returns c =
-    let a = (entry (goal.at.returns c).After-rank_of-high).args in
-    let r = found (goal.at.returns c).After-rank_of-high in
+    let a = c.args in
+    let f = (goal.at.returns c).After-rank_of-high in
+    let r = found f in
     let e : a.low + a.n - a.low ≡ a.n = omega arith in
     let m = c.move_contents.ensures in
     let u = c.move_up in
-    let w = c.number_cells in record {
+    let w = c.number_cells in
+    record {
       value = omega arith;
-      addresses_after = places-numbered a.count a.low (high (goal.at.returns c).After-rank_of-high) a.n (a.low + a.n - a.low) a.start a.addresses.now u.new.1.1.1.0 w.new.1.0
-            e (omega arith) (omega arith) (omega arith) (moved-behind (goal.at.returns c).After-rank_of-high a.addresses.now _ u.ensures) w.ensures;
-      numbers_after = moved-behind (goal.at.returns c).After-rank_of-high a.numbers.now _ m.0;
-      moments_after = moved-behind (goal.at.returns c).After-rank_of-high a.moments.now _ m.1.0;
-      marks_after = marks-behind (goal.at.returns c).After-rank_of-high a.guarded a.marks.now _ m.1.1;
+      addresses_after = places-numbered a.count a.low (high f) a.n (a.low + a.n - a.low) a.start a.addresses.now u.new.buffer w.new.addresses
+            e (omega arith) (omega arith) (omega arith) (moved-behind f a.addresses.now _ u.ensures) w.ensures;
+      numbers_after = moved-behind f a.numbers.now _ m.numbers_after;
+      moments_after = moved-behind f a.moments.now _ m.moments_after;
+      marks_after = marks-behind f a.guarded a.marks.now _ m.marks_after;
     }
-
--- GONE slice-bounds-number-cells-end
--- part-number-cells-end : tie.Need-slice-bounds-number-cells-end
--- part-number-cells-end c = let r = found c.before.before.before.before.before.before.before.before.before.before.before.before.before.before in omega arith

@@ -10,13 +10,16 @@ move_up-requires-then-guarded c =
     let q = c.if-guarded.true in
     let t : c.args.guarded ≡ true = cc in
     let l : length c.args.marks.now ≡ length c.args.numbers.now = c.requires.marks_len t in
-    (omega arith, omega arith)
+    record {
+      from_le_count = omega arith;
+      n_in_bounds = omega arith;
+    }
 
 pub returns-then-guarded : goal.returns-then-guarded
 returns-then-guarded c =
     let q = c.if-guarded.true in
     let t : c.args.guarded ≡ true = cc in
- record {
+    record {
       numbers_after = c.move_up.ensures;
       moments_after = c.move_up-2.ensures;
       marks_after = rw t c.move_up-then-guarded.ensures;
@@ -26,7 +29,7 @@ pub returns-else-guarded : goal.returns-else-guarded
 returns-else-guarded c =
     let q = c.if-guarded.false in
     let t : c.args.guarded ≡ false = cc in
- record {
+    record {
       numbers_after = c.move_up.ensures;
       moments_after = c.move_up-2.ensures;
       marks_after = rw t;

@@ -1,12 +1,8 @@
 -- `storing::cells::move_up` meets its contract. The loop's invariant: the elements from i on are moved.
-use Prim.Native.Nat.{ℕ, ◌+◌, ◌-◌, ◌≤◌}
-use mathlib.Core.Path.{◌≡◌, refl, ap, ◌∙◌}
-use mathlib.Core.List.{List}
-use native.Mathlib.Nat.{le_refl}
-use native.Mathlib.Omega.{arith}
-use lib.ListN.{length, get_or, set, length-set}
+use Prim.Native.Nat.{◌+◌, ◌≤◌}
+use mathlib.Core.Path.{◌≡◌}
+use lib.ListN.{length}
 use Rattle.hardware.specs.Places.{moved}
-use Rattle.storing.proofs.InsertLaws.{moved_none, moved-next}
 use Rattle.storing.proofs.cells.move_up.Given as goal
 
 abbrev pub invariant-loop-i : goal.invariant-loop-i

@@ -1,16 +1,9 @@
 -- `storing::cells::number_cells` meets its contract. The loop's invariant: the first i addresses are written, at least one.
-use Prim.Native.Nat.{ℕ, ◌+◌, ◌-◌, ◌≤◌, ◌<◌}
-use mathlib.Core.Path.{◌≡◌, refl, sym, ap, ◌∙◌}
-use mathlib.Core.List.{List, [], ◌∷◌}
-use native.Mathlib.Omega.{arith}
-use lib.ListN.{length, get_or, set, take, length-set, get_or-append}
-use lib.Seq.{take_all, length-take-le, get_or-take}
-use Rattle.rules.specs.Numbers.{word_end}
+use Prim.Native.Nat.{◌-◌, ◌≤◌}
+use mathlib.Core.Path.{◌≡◌}
+use lib.ListN.{length, take}
 use Rattle.rules.specs.Step.{overlay}
 use Rattle.hardware.specs.Places.{consecutive}
-use Rattle.hardware.proofs.WriteLaws.{overlay-next}
-use Rattle.storing.proofs.OverwriteLaws.{overlay-all}
-use Rattle.hardware.proofs.SpliceLaws.{length-consecutive, get_or-consecutive}
 use Rattle.storing.proofs.cells.number_cells.Given as goal
 
 abbrev pub invariant-loop-i : goal.invariant-loop-i

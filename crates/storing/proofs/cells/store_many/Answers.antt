@@ -35,7 +35,7 @@ overwrite-requires c =
     let o = c.requires.ordered in
     let f = span-at _ a.start (length a.values.now) _ (sym c.find_span.ensures ∙ c.in-At.is) in
     let w = span-ends a.count a.addresses.now o.addresses a.start _ f.1 (length a.values.now) f.0 in
- record {
+    record {
       values_in_bounds = omega (arith, w, o.addresses.within, o.level);
       moments_len = o.moment_level ∙ sym o.level;
       marks_len = λ t. o.mark_level t ∙ sym o.level;
@@ -48,7 +48,7 @@ pub insert_span-used-requires : goal.insert_span-used-requires
 unfolding word_end
 insert_span-used-requires c =
     let l = c.rank_of-low.ensures in
- record {
+    record {
       ordered = c.requires.ordered;
       low_value = l;
       n_bound = within-words c.args.start (length c.args.values.now) (omega arith) c.requires.values_bound;
@@ -61,7 +61,11 @@ overwrite-requires-in-Absent c =
     let o = c.requires.ordered in
     let l = c.rank_of-low.ensures in
     let r = places-for a.count a.addresses.now o.addresses a.start (length a.values.now) _ _ l refl (fits (goal.at.overwrite-requires-in-Absent c).Start) in
-    (omega (arith, o.level), (omega (arith, o.level, o.moment_level), λ t. omega (arith, o.level, o.mark_level t)))
+    record {
+      values_in_bounds = omega (arith, o.level);
+      moments_len = omega (arith, o.level, o.moment_level);
+      marks_len = λ t. omega (arith, o.level, o.mark_level t);
+    }
 
 pub returns-in-At : goal.returns-in-At
 returns-in-At c =
@@ -69,7 +73,7 @@ returns-in-At c =
     let f = span-at _ a.start (length a.values.now) _ (sym c.find_span.ensures ∙ c.in-At.is) in
     let w = c.overwrite.ensures in
     overwritten-holds a.guarded a.count a.addresses.now a.numbers.now a.moments.now a.marks.now c.requires.ordered a.start _ f.1
-    a.values.now f.0 a.moment _ _ _ w.0 w.1.0 w.1.1
+    a.values.now f.0 a.moment _ _ _ w.numbers_after w.moments_after w.marks_after
 
 pub returns-in-Absent : goal.returns-in-Absent
 returns-in-Absent c =
@@ -78,4 +82,5 @@ returns-in-Absent c =
     let w = c.overwrite-in-Absent.ensures in
     let l = c.rank_of-low.ensures in
     places-hold a.guarded a.count a.addresses.now a.numbers.now a.moments.now a.marks.now c.requires.ordered a.start a.values.now _ l
-    (fits (goal.at.returns-in-Absent c).Start) a.moment _ _ _ _ _ _ _ _ m.0 m.1.0 m.1.1.0 m.1.1.1.0 m.1.1.1.1 w.0 w.1.0 w.1.1
+    (fits (goal.at.returns-in-Absent c).Start) a.moment _ _ _ _ _ _ _ _ m.value m.addresses_after m.numbers_after m.moments_after m.marks_after
+    w.numbers_after w.moments_after w.marks_after

@@ -1,12 +1,9 @@
 -- `storing::cells::write_held` meets its contract. The loop's invariant: the first i values are written, and as many moments.
-use Prim.Native.Nat.{ℕ, ◌+◌, ◌-◌, ◌≤◌, ◌<◌, zero-le}
-use mathlib.Core.Path.{◌≡◌, refl, sym, ap, ◌∙◌}
+use Prim.Native.Nat.{ℕ, ◌-◌, ◌≤◌}
+use mathlib.Core.Path.{◌≡◌}
 use mathlib.Core.List.{List}
-use native.Mathlib.Omega.{arith}
-use lib.ListN.{length, get_or, set, take, length-set}
-use lib.Seq.{take_all}
+use lib.ListN.{length, take}
 use Rattle.hardware.specs.Places.{overwritten, filled}
-use Rattle.storing.proofs.OverwriteLaws.{length-filled, get_or-filled, overwritten-none, overwritten-next}
 use Rattle.storing.proofs.cells.write_held.Given as goal
 
 -- the first i of these are written from a place on

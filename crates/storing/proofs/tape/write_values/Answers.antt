@@ -1,9 +1,9 @@
 -- `storing::tape::write_values` meets its contract. The loop's invariant: the first i values are written.
-use Prim.Native.Nat.{ℕ, ◌-◌, ◌≤◌, zero-le}
-use mathlib.Core.Path.{◌≡◌, refl, ap, ◌∙◌}
+use Prim.Native.Nat.{ℕ, zero-le}
+use mathlib.Core.Path.{refl, ap, ◌∙◌}
 use mathlib.Core.List.{List}
 use native.Mathlib.Omega.{arith}
-use lib.ListN.{length, get_or, set, take, length-set}
+use lib.ListN.{get_or, set, length-set}
 use lib.Seq.{take_all}
 use Rattle.rules.specs.Step.{overlay}
 use Rattle.hardware.proofs.WriteLaws.{overlay-next}

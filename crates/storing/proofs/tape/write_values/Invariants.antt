@@ -1,12 +1,8 @@
 -- `storing::tape::write_values` meets its contract. The loop's invariant: the first i values are written.
-use Prim.Native.Nat.{ℕ, ◌-◌, ◌≤◌, zero-le}
-use mathlib.Core.Path.{◌≡◌, refl, ap, ◌∙◌}
-use mathlib.Core.List.{List}
-use native.Mathlib.Omega.{arith}
-use lib.ListN.{length, get_or, set, take, length-set}
-use lib.Seq.{take_all}
+use Prim.Native.Nat.{◌-◌, ◌≤◌}
+use mathlib.Core.Path.{◌≡◌}
+use lib.ListN.{length, take}
 use Rattle.rules.specs.Step.{overlay}
-use Rattle.hardware.proofs.WriteLaws.{overlay-next}
 use Rattle.storing.proofs.tape.write_values.Given as goal
 
 abbrev pub invariant-loop-i : goal.invariant-loop-i
