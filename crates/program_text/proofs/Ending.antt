@@ -23,9 +23,8 @@ use Rattle.program.proofs.Frames.{value-count-le}
 use Rattle.program_text.specs.TextLines.{line_length, FrameEnd, FrameRead, FrameHere, MalformedHere, ReadsLine, ReadsFrame}
 use Rattle.program_text.specs.declared.lines.Line.{Line}
 use Rattle.program_text.specs.declared.lines.Line.TheVariants.{Words}
-use Rattle.program_text.specs.declared.lines.Line.TheVariants as Line
 use Rattle.program_text.proofs.Breaking.{length-le, lines_next, lines-last}
-use Rattle.program_text.proofs.Framing.{joined-take, joined_length, line, line-length}
+use Rattle.program_text.proofs.Framing.{joined-take, joined_length, line-length}
 
 -- A line's length and its line feed
 

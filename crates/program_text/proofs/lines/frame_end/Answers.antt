@@ -1,7 +1,6 @@
 -- `program_text::lines::frame_end` meets its contract. The loop keeps `Looked`, and the places that are left are the measure.
-use Prim.Native.Nat.{◌-◌}
 use native.Mathlib.Omega.{arith}
-use Rattle.program_text.proofs.Ending.{Looked, looked-start, looked-next, no_end, end-found}
+use Rattle.program_text.proofs.Ending.{looked-start, looked-next, no_end, end-found}
 use Rattle.program_text.proofs.lines.frame_end.Goals as goal
 
 pub loop-left-init : goal.loop-left-init

@@ -1,7 +1,5 @@
 -- `program_text::lines::frame_end` meets its contract. The loop keeps `Looked`, and the places that are left are the measure.
-use Prim.Native.Nat.{◌-◌}
-use native.Mathlib.Omega.{arith}
-use Rattle.program_text.proofs.Ending.{Looked, looked-start, looked-next, no_end, end-found}
+use Rattle.program_text.proofs.Ending.{Looked}
 use Rattle.program_text.proofs.lines.frame_end.Given as goal
 
 abbrev pub invariant-loop-left : goal.invariant-loop-left

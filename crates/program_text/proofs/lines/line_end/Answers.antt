@@ -1,10 +1,7 @@
 -- `program_text::lines::line_end` meets its contract. The loop keeps that the line from here on ends where the line from the start does.
-use mathlib.Core.Path.{◌≡◌, refl}
-use Prim.Native.Nat.{◌+◌, ◌-◌, ◌≤◌}
+use mathlib.Core.Path.{refl}
 use native.Mathlib.Omega.{arith}
 use native.Mathlib.Numerals.{add-one}
-use lib.ListN.{length, drop}
-use Rattle.program_text.specs.TextLines.{line_length}
 use Rattle.program_text.proofs.Breaking.{length-feed, length-other, length-end}
 use Rattle.program_text.proofs.lines.line_end.Goals as goal
 

@@ -1,11 +1,8 @@
 -- `program_text::lines::line_end` meets its contract. The loop keeps that the line from here on ends where the line from the start does.
-use mathlib.Core.Path.{◌≡◌, refl}
+use mathlib.Core.Path.{◌≡◌}
 use Prim.Native.Nat.{◌+◌, ◌-◌, ◌≤◌}
-use native.Mathlib.Omega.{arith}
-use native.Mathlib.Numerals.{add-one}
 use lib.ListN.{length, drop}
 use Rattle.program_text.specs.TextLines.{line_length}
-use Rattle.program_text.proofs.Breaking.{length-feed, length-other, length-end}
 use Rattle.program_text.proofs.lines.line_end.Given as goal
 
 abbrev pub invariant-loop-i : goal.invariant-loop-i

@@ -1,11 +1,8 @@
 -- `program_text::lines::more_lines` meets its contract. The loop keeps how many lines are left beside how many may be.
-use mathlib.Core.Path.{◌≡◌, sym, ap}
-use Prim.Native.Nat.{◌+◌, ◌-◌, ◌≤◌, ◌<◌}
-use native.Mathlib.Omega.{arith}
+use mathlib.Core.Path.{◌≡◌}
+use Prim.Native.Nat.{◌+◌, ◌-◌, ◌≤◌}
 use lib.ListN.{length, drop}
-use borrow.Author.Tests.{lt-ltb, le-ltb}
 use Rattle.rules.specs.Text.{lines_of}
-use Rattle.program_text.proofs.Breaking.{lines_none, lines_next, lines-last, lines-some}
 use Rattle.program_text.proofs.lines.more_lines.Given as goal
 
 abbrev pub invariant-loop-at : goal.invariant-loop-at
