@@ -1,45 +1,51 @@
 -- `report::lines::put_fields` meets its contract: after each field those that follow are left.
-use mathlib.Core.List.{◌++◌}
+use mathlib.Core.List.{List, ◌++◌}
+use Prim.Native.Nat.{ℕ, ◌+◌, ◌≤◌}
+use lib.ListN.{length}
 use Rattle.rules.specs.Solve.{kilosteps, spaced}
+use Rattle.report.specs.Placing.{Placed}
 use Rattle.report.specs.ReportLines.{fields}
 use Rattle.report.proofs.Placing.{Rest, rest_all, first_fits, rest-after}
 use Rattle.report.proofs.lines.put_fields.Goals as goal
-use Rattle.report.proofs.lines.put_fields.Goals.{After-slice_known-2-1, After-slice_known-3-1, After-slice_known-4-1, Start}
 
-all_left : (c : Start)
-    → let a = c.args in
-    let f = fields a.steps a.pc a.clk in
-    Rest f a.buffer.now a.at f a.buffer.now a.at
-all_left c = rest_all c.requires
+-- what is left after so many fields
+module _ (steps pc clk at : ℕ) (b : List ℕ) (fits : at + length (fields steps pc clk) ≤ length b) where
+  left-0 : Rest (fields steps pc clk) b at (spaced steps ++ (spaced pc ++ (spaced clk ++ spaced (kilosteps clk)))) b at
+  unfolding fields
+  left-0 = rest_all fits
 
-left-1 : (c : After-slice_known-2-1)
-    → let a = c.args in
-    Rest (fields a.steps a.pc a.clk) a.buffer.now a.at (spaced a.pc ++ (spaced a.clk ++ spaced (kilosteps a.clk))) c.put_field-a.new.buffer c.put_field-a.result
-unfolding fields
-left-1 c = rest-after (spaced c.args.steps) _ (all_left ⟪c.before.before.before.before.before⟫) c.put_field-a.ensures
+  module _ {at1 : ℕ} {b1 : List ℕ} (p1 : Placed (spaced steps) b at at1 b1) where
+    left-1 : Rest (fields steps pc clk) b at (spaced pc ++ (spaced clk ++ spaced (kilosteps clk))) b1 at1
+    left-1 = rest-after (spaced steps) _ left-0 p1
 
-left-2 : (c : After-slice_known-3-1)
-    → let a = c.args in
-    Rest (fields a.steps a.pc a.clk) a.buffer.now a.at (spaced a.clk ++ spaced (kilosteps a.clk)) c.put_field-b.new.buffer c.put_field-b.result
-left-2 c = rest-after (spaced c.args.pc) _ (left-1 ⟪c.before.before.before.before⟫) c.put_field-b.ensures
+    module _ {at2 : ℕ} {b2 : List ℕ} (p2 : Placed (spaced pc) b1 at1 at2 b2) where
+      left-2 : Rest (fields steps pc clk) b at (spaced clk ++ spaced (kilosteps clk)) b2 at2
+      left-2 = rest-after (spaced pc) _ left-1 p2
 
-left-3 : (c : After-slice_known-4-1)
-    → let a = c.args in
-    Rest (fields a.steps a.pc a.clk) a.buffer.now a.at (spaced (kilosteps a.clk)) c.put_field-c.new.buffer c.put_field-c.result
-left-3 c = rest-after (spaced c.args.clk) _ (left-2 ⟪c.before.before.before.before⟫) c.put_field-c.ensures
+      left-3 : {at3 : ℕ} {b3 : List ℕ} → Placed (spaced clk) b2 at2 at3 b3 → Rest (fields steps pc clk) b at (spaced (kilosteps clk)) b3 at3
+      left-3 = rest-after (spaced clk) _ left-2
 
 pub put_field-a-requires : goal.put_field-a-requires
-unfolding fields
-put_field-a-requires c = first_fits (spaced c.args.steps) _ (all_left (goal.at.put_field-a-requires c).Start)
+put_field-a-requires c = let a = c.args in first_fits (spaced a.steps) _ (left-0 a.steps a.pc a.clk a.at a.buffer.now c.requires)
 
 pub put_field-b-requires : goal.put_field-b-requires
-put_field-b-requires c = first_fits (spaced c.args.pc) _ (left-1 (goal.at.put_field-b-requires c).After-slice_known-2-1)
+put_field-b-requires c =
+    let a = c.args in
+    first_fits (spaced a.pc) _ (left-1 a.steps a.pc a.clk a.at a.buffer.now c.requires c.put_field-a.ensures)
 
 pub put_field-c-requires : goal.put_field-c-requires
-put_field-c-requires c = first_fits (spaced c.args.clk) _ (left-2 (goal.at.put_field-c-requires c).After-slice_known-3-1)
+put_field-c-requires c =
+    let a = c.args in
+    first_fits (spaced a.clk) _ (left-2 a.steps a.pc a.clk a.at a.buffer.now c.requires c.put_field-a.ensures c.put_field-b.ensures)
 
 pub put_field-requires : goal.put_field-requires
-put_field-requires c = rw c.kilosteps.ensures (left-3 (goal.at.put_field-requires c).After-slice_known-4-1).fits
+put_field-requires c =
+    let a = c.args in
+    let l = left-3 a.steps a.pc a.clk a.at a.buffer.now c.requires c.put_field-a.ensures c.put_field-b.ensures c.put_field-c.ensures in
+    rw c.kilosteps.ensures l.fits
 
 pub returns : goal.returns
-returns c = (left-3 (goal.at.returns c).After-slice_known-4-1).whole (rw c.kilosteps.ensures at c.put_field.ensures)
+returns c =
+    let a = c.args in
+    let l = left-3 a.steps a.pc a.clk a.at a.buffer.now c.requires c.put_field-a.ensures c.put_field-b.ensures c.put_field-c.ensures in
+    l.whole (rw c.kilosteps.ensures at c.put_field.ensures)

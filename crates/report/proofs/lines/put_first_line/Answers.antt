@@ -1,53 +1,62 @@
 -- `report::lines::put_first_line` meets its contract: after each part those that follow are left.
-use mathlib.Core.List.{[], ◌∷◌, ◌++◌}
+use mathlib.Core.List.{List, [], ◌∷◌, ◌++◌}
+use Prim.Native.Nat.{ℕ, ◌≤◌}
 use native.Mathlib.Omega.{arith}
+use lib.ListN.{length}
+use Rattle.report.specs.declared.label.Label.{Label}
+use Rattle.report.specs.Placing.{Placed}
 use Rattle.report.specs.ReportLines.{label_text, frame_field, fields, first_line}
 use Rattle.report.proofs.Placing.{Rest, placed_one, placed-length, rest_all, first_fits, rest-after}
 use Rattle.report.proofs.lines.put_first_line.Goals as goal
-use Rattle.report.proofs.lines.put_first_line.Goals.{After-slice_known-2-1, After-slice_known-3-1, After-slice_known-4-1, Start}
 
-all_left : (c : Start)
-    → let a = c.args in
-    let l = first_line a.label a.steps a.pc a.clk in
-    Rest l a.buffer.now 0 l a.buffer.now 0
-all_left c = rest_all (omega (arith, c.requires))
+-- what is left after so many parts
+module _ (label : Label) (steps pc clk : ℕ) (b : List ℕ) (fits : length (first_line label steps pc clk) ≤ length b) where
+  left-0 : Rest (first_line label steps pc clk) b 0 (label_text label ++ (fields steps pc clk ++ (frame_field label ++ (10 ∷ [])))) b 0
+  unfolding first_line
+  left-0 = rest_all (omega (arith, fits))
 
-left-1 : (c : After-slice_known-2-1)
-    → let a = c.args in
-    Rest (first_line a.label a.steps a.pc a.clk) a.buffer.now 0 (fields a.steps a.pc a.clk ++ (frame_field a.label ++ (10 ∷ []))) c.put_label-a.new.buffer c.put_label-a.result
-unfolding first_line
-left-1 c = rest-after (label_text c.args.label) _ (all_left ⟪c.before.before.before.before.before⟫) c.put_label-a.ensures
+  module _ {at1 : ℕ} {b1 : List ℕ} (p1 : Placed (label_text label) b 0 at1 b1) where
+    left-1 : Rest (first_line label steps pc clk) b 0 (fields steps pc clk ++ (frame_field label ++ (10 ∷ []))) b1 at1
+    left-1 = rest-after (label_text label) _ left-0 p1
 
-left-2 : (c : After-slice_known-3-1)
-    → let a = c.args in
-    Rest (first_line a.label a.steps a.pc a.clk) a.buffer.now 0 (frame_field a.label ++ (10 ∷ [])) c.put_fields-b.new.buffer c.put_fields-b.result
-left-2 c = let a = c.args in rest-after (fields a.steps a.pc a.clk) _ (left-1 ⟪c.before.before.before.before⟫) c.put_fields-b.ensures
+    module _ {at2 : ℕ} {b2 : List ℕ} (p2 : Placed (fields steps pc clk) b1 at1 at2 b2) where
+      left-2 : Rest (first_line label steps pc clk) b 0 (frame_field label ++ (10 ∷ [])) b2 at2
+      left-2 = rest-after (fields steps pc clk) _ left-1 p2
 
-left-3 : (c : After-slice_known-4-1)
-    → let a = c.args in
-    Rest (first_line a.label a.steps a.pc a.clk) a.buffer.now 0 (10 ∷ []) c.put_frame-end.new.buffer c.put_frame-end.result
-left-3 c = rest-after (frame_field c.args.label) _ (left-2 ⟪c.before.before.before.before⟫) c.put_frame-end.ensures
+      left-3 : {at3 : ℕ} {b3 : List ℕ} → Placed (frame_field label) b2 at2 at3 b3 → Rest (first_line label steps pc clk) b 0 (10 ∷ []) b3 at3
+      left-3 = rest-after (frame_field label) _ left-2
 
 pub put_label-a-requires : goal.put_label-a-requires
-unfolding first_line
-put_label-a-requires c = omega (arith, first_fits (label_text c.args.label) _ (all_left (goal.at.put_label-a-requires c).Start))
+put_label-a-requires c =
+    let a = c.args in
+    omega (arith, first_fits (label_text a.label) _ (left-0 a.label a.steps a.pc a.clk a.buffer.now c.requires))
 
 pub put_fields-b-requires : goal.put_fields-b-requires
-put_fields-b-requires c = let a = c.args in first_fits (fields a.steps a.pc a.clk) _ (left-1 (goal.at.put_fields-b-requires c).After-slice_known-2-1)
+put_fields-b-requires c =
+    let a = c.args in
+    first_fits (fields a.steps a.pc a.clk) _ (left-1 a.label a.steps a.pc a.clk a.buffer.now c.requires c.put_label-a.ensures)
 
 pub put_frame-end-requires : goal.put_frame-end-requires
-put_frame-end-requires c = first_fits (frame_field c.args.label) _ (left-2 (goal.at.put_frame-end-requires c).After-slice_known-3-1)
+put_frame-end-requires c =
+    let a = c.args in
+    first_fits (frame_field a.label) _ (left-2 a.label a.steps a.pc a.clk a.buffer.now c.requires c.put_label-a.ensures c.put_fields-b.ensures)
 
 pub bounds-buffer-end : goal.bounds-buffer-end
-bounds-buffer-end c = omega (arith, (left-3 c).ranges)
+bounds-buffer-end c =
+    let a = c.args in
+    omega (arith, (left-3 a.label a.steps a.pc a.clk a.buffer.now c.requires c.put_label-a.ensures c.put_fields-b.ensures c.put_frame-end.ensures).fits)
 
 pub overflow_add-result : goal.overflow_add-result
-overflow_add-result c = omega (arith, (left-3 c).ranges)
+overflow_add-result c =
+    let a = c.args in
+    omega (arith, (left-3 a.label a.steps a.pc a.clk a.buffer.now c.requires c.put_label-a.ensures c.put_fields-b.ensures c.put_frame-end.ensures).fits)
 
 pub returns : goal.returns
 returns c =
+    let a = c.args in
     let p = c.put_frame-end in
-    (left-3 c).whole (placed_one p.new.1.1.0 p.result 10 (omega (arith, (left-3 c).ranges)))
+    let l = left-3 a.label a.steps a.pc a.clk a.buffer.now c.requires c.put_label-a.ensures c.put_fields-b.ensures p.ensures in
+    l.whole (placed_one p.new.buffer p.result 10 (omega (arith, l.fits)))
 
 pub shape_of-buffer : goal.shape_of-buffer
 shape_of-buffer c = placed-length (omega (arith, c.requires)) (returns c)

@@ -45,7 +45,7 @@ unfolding label_text
 returns-in-Outcome c = placed-as (ap label_text c.in-Outcome.is) ((left (goal.at.returns-in-Outcome c).In-Outcome).whole c.put_hex.ensures)
 
 pub shape_of-buffer-in-Outcome : goal.shape_of-buffer-in-Outcome
-shape_of-buffer-in-Outcome c = placed-length (omega (arith, c.requires)) (returns c)
+shape_of-buffer-in-Outcome c = placed-length (omega (arith, c.requires)) (returns-in-Outcome c)
 
 pub returns-in-Refusal : goal.returns-in-Refusal
 unfolding label_text

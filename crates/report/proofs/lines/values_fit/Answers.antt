@@ -1,10 +1,6 @@
 -- `report::lines::values_fit` meets its contract. The loop's invariant: all lines fit where those of the values from i on fit in the places left.
-use mathlib.Core.Path.{◌≡◌, refl, sym, ◌∙◌}
-use Prim.Native.Nat.{◌-◌}
+use mathlib.Core.Path.{refl, sym, ◌∙◌}
 use native.Mathlib.Omega.{arith}
-use lib.Dec.{leb}
-use lib.ListN.{length, drop}
-use Rattle.rules.specs.Solve.{value_lines}
 use Rattle.report.proofs.Lengths.{all_fit, too_long, fits_after}
 use Rattle.report.proofs.lines.values_fit.Goals as goal
 
