@@ -8,6 +8,7 @@ use lib.ListN.{length, take, length-set}
 use lib.Seq.{take-set-lt, drop-set-lt}
 use borrow.Author.Rules.{rules}
 use Rattle.effects.specs.declared.EffectKind.{EffectKind}
+use Rattle.effects.specs.declared.EffectKind.TheVariants as K
 use Rattle.effects.specs.declared.Effect.{Effect}
 use Rattle.effects.specs.Effects.{Change, by_kind, meant, PlacedBy, Placed}
 use Rattle.carrying.specs.Cores.{Core, core_of}
@@ -16,7 +17,7 @@ use Rattle.carrying.proofs.Arms.{register-named, write-asks, insert-asks, load_a
 use Rattle.carrying.proofs.Arms.{sets-register, writes-cell, stores-cell, jumps, loads-tape, stores-tape, calls-contract}
 use Rattle.carrying.proofs.Arms.{ends-run, refuses-step, sinks}
 use Rattle.carrying.proofs.carry_out.Goals as goal
-use Rattle.carrying.proofs.carry_out.Goals.{In-SetProduct, In-SetRegister, Start}
+use Rattle.carrying.proofs.carry_out.Goals.{Start}
 
 abbrev core : Start → Core
 core s =
@@ -42,51 +43,50 @@ placed_by : (l : List ℕ) (a : Effect) {k : EffectKind} → a.kind ≡ k → Pl
 unfolding Placed
 placed_by l a e p = subst (λ (k : EffectKind). PlacedBy k l a) e p
 
-register-below : (c : In-SetRegister) → c.args.effect.place < 10
-register-below c =
-    let e = meant-by c.args.mark c.args.effect c.in-SetRegister.is in
-    register-named (core ⟪s⟫) c.args.storage_addr (change ⟪s⟫) (can ⟪s⟫) _ _ _ _ e
+-- the register that is set
+register-below : (s : Start) → s.args.effect.kind ≡ K.SetRegister → s.args.effect.place < 10
+register-below s k = register-named (core s) s.args.storage_addr (change s) (can s) _ _ _ _ (meant-by s.args.mark s.args.effect k)
+
+-- a product's register
+product-below : (s : Start) → s.args.effect.kind ≡ K.SetProduct → s.args.effect.place < 10
+product-below s k = register-named (core s) s.args.storage_addr (change s) (can s) _ _ _ _ (meant-by s.args.mark s.args.effect k)
 
 pub offset_bounds-values-place : goal.offset_bounds-values-place
-offset_bounds-values-place c = omega (arith, register-below c)
+offset_bounds-values-place c = omega (arith, (register-below (goal.at.offset_bounds-values-place c).Start c.in-SetRegister.is))
 
 pub bounds-values-place : goal.bounds-values-place
-bounds-values-place c = omega (arith, register-below c, c.requires.in_bounds)
+bounds-values-place c = omega (arith, (register-below (goal.at.bounds-values-place c).Start c.in-SetRegister.is), c.requires.in_bounds)
 
 pub marks_after-requires : goal.marks_after-requires
 marks_after-requires c = record {
       registers_lt_marks_end = c.requires.carriable.ready.register_marks;
-      register_bound = register-below (goal.at.marks_after-requires c).In-SetRegister;
+      register_bound = (register-below (goal.at.marks_after-requires c).Start c.in-SetRegister.is);
     }
-
--- a product's register
-product-register-below : (c : In-SetProduct) → c.args.effect.place < 10
-product-register-below c =
-    let e = meant-by c.args.mark c.args.effect c.in-SetProduct.is in
-    register-named (core ⟪s⟫) c.args.storage_addr (change ⟪s⟫) (can ⟪s⟫) _ _ _ _ e
 
 pub product_marks_after-product_extras-requires : goal.product_marks_after-product_extras-requires
 product_marks_after-product_extras-requires c = record {
       registers_lt_marks_end = c.requires.carriable.ready.register_marks;
-      register_bound = product-register-below c;
+      register_bound = (product-below (goal.at.product_marks_after-product_extras-requires c).Start c.in-SetProduct.is);
     }
 
 pub offset_bounds-values-place-in-SetProduct : goal.offset_bounds-values-place-in-SetProduct
-offset_bounds-values-place-in-SetProduct c = omega (arith, product-register-below (goal.at.offset_bounds-values-place-in-SetProduct c).In-SetProduct)
+offset_bounds-values-place-in-SetProduct c = omega (arith, (product-below (goal.at.offset_bounds-values-place-in-SetProduct c).Start c.in-SetProduct.is))
 
 pub bounds-values-place-in-SetProduct : goal.bounds-values-place-in-SetProduct
-bounds-values-place-in-SetProduct c = omega (arith, product-register-below (goal.at.bounds-values-place-in-SetProduct c).In-SetProduct, c.requires.in_bounds)
+bounds-values-place-in-SetProduct c = omega (arith, (product-below (goal.at.bounds-values-place-in-SetProduct c).Start c.in-SetProduct.is), c.requires.in_bounds)
 
 pub write_at-requires : goal.write_at-requires
 write_at-requires c =
     let f = placed_by _ c.args.effect c.in-StoreAt.is c.requires.placed in
-    write-asks (core (goal.at.write_at-requires c).Start) c.args.storage_addr (change (goal.at.write_at-requires c).Start) (can (goal.at.write_at-requires c).Start) _ _ f
+    let a = write-asks (core (goal.at.write_at-requires c).Start) c.args.storage_addr (change (goal.at.write_at-requires c).Start) (can (goal.at.write_at-requires c).Start) _ _ f in
+    record { at_in_bounds = a.0; at_in_bounds_2 = a.1.0; at_in_bounds_3 = a.1.1 }
 
 pub insert-requires : goal.insert-requires
 insert-requires c =
     let e = meant-by c.args.mark c.args.effect c.in-Insert.is in
     let f = placed_by _ c.args.effect c.in-Insert.is c.requires.placed in
-    insert-asks (core (goal.at.insert-requires c).Start) c.args.storage_addr (change (goal.at.insert-requires c).Start) (can (goal.at.insert-requires c).Start) _ _ _ _ _ e f
+    let a = insert-asks (core (goal.at.insert-requires c).Start) c.args.storage_addr (change (goal.at.insert-requires c).Start) (can (goal.at.insert-requires c).Start) _ _ _ _ _ e f in
+    record { ordered = a.0; count_in_bounds = a.1.0; at_value = a.1.1 }
 
 pub overflow_add-cells : goal.overflow_add-cells
 overflow_add-cells c =
@@ -97,17 +97,20 @@ overflow_add-cells c =
 pub load_tape-cells-requires : goal.load_tape-cells-requires
 load_tape-cells-requires c =
     let e = meant-by c.args.mark c.args.effect c.in-LoadTape.is in
-    load_asks (core (goal.at.load_tape-cells-requires c).Start) c.args.storage_addr (change (goal.at.load_tape-cells-requires c).Start) (can (goal.at.load_tape-cells-requires c).Start) _ _ _ _ e
+    let a = load_asks (core (goal.at.load_tape-cells-requires c).Start) c.args.storage_addr (change (goal.at.load_tape-cells-requires c).Start) (can (goal.at.load_tape-cells-requires c).Start) _ _ _ _ e in
+    record { ordered = a.0; n_in_bounds = a.1.0; n_bound = a.1.1.0; tape_in_bounds = a.1.1.1 }
 
 pub append_numbers-requires : goal.append_numbers-requires
 append_numbers-requires c =
     let e = meant-by c.args.mark c.args.effect c.in-StoreTape.is in
-    tape-asks (core (goal.at.append_numbers-requires c).Start) c.args.storage_addr (change (goal.at.append_numbers-requires c).Start) (can (goal.at.append_numbers-requires c).Start) _ _ _ e
+    let a = tape-asks (core (goal.at.append_numbers-requires c).Start) c.args.storage_addr (change (goal.at.append_numbers-requires c).Start) (can (goal.at.append_numbers-requires c).Start) _ _ _ e in
+    record { n_in_bounds = a.0; n_in_bounds_2 = a.1 }
 
 pub append_numbers-requires-in-StoreTape : goal.append_numbers-requires-in-StoreTape
 append_numbers-requires-in-StoreTape c =
     let e = meant-by c.args.mark c.args.effect c.in-StoreTape.is in
-    output-asks (core (goal.at.append_numbers-requires-in-StoreTape c).Start) c.args.storage_addr (change (goal.at.append_numbers-requires-in-StoreTape c).Start) (can (goal.at.append_numbers-requires-in-StoreTape c).Start) _ _ _ e
+    let a = output-asks (core (goal.at.append_numbers-requires-in-StoreTape c).Start) c.args.storage_addr (change (goal.at.append_numbers-requires-in-StoreTape c).Start) (can (goal.at.append_numbers-requires-in-StoreTape c).Start) _ _ _ e in
+    record { n_in_bounds = a.0; n_in_bounds_2 = a.1 }
 
 pub overflow_add-tape_count : goal.overflow_add-tape_count
 overflow_add-tape_count c =
@@ -122,7 +125,8 @@ overflow_add-output_count c =
 pub call_contract-answer-requires : goal.call_contract-answer-requires
 call_contract-answer-requires c =
     let e = meant-by c.args.mark c.args.effect c.in-CallContract.is in
-    call_asks (core (goal.at.call_contract-answer-requires c).Start) c.args.storage_addr (change (goal.at.call_contract-answer-requires c).Start) (can (goal.at.call_contract-answer-requires c).Start) _ _ _ e
+    let a = call_asks (core (goal.at.call_contract-answer-requires c).Start) c.args.storage_addr (change (goal.at.call_contract-answer-requires c).Start) (can (goal.at.call_contract-answer-requires c).Start) _ _ _ e in
+    record { at_in_bounds = a.0; count_in_bounds = a.1 }
 
 pub overflow_add-tape_count-in-CallContract : goal.overflow_add-tape_count-in-CallContract
 overflow_add-tape_count-in-CallContract c =
@@ -132,7 +136,7 @@ overflow_add-tape_count-in-CallContract c =
 pub returns-in-SetRegister : goal.returns-in-SetRegister
 returns-in-SetRegister c =
     let e = meant-by c.args.mark c.args.effect c.in-SetRegister.is in
-    let r = register-below (goal.at.returns-in-SetRegister c).In-SetRegister in
+    let r = (register-below (goal.at.returns-in-SetRegister c).Start c.in-SetRegister.is) in
     let g = take-set-lt 10 c.args.values.now _ _ r in record {
       carried_out = sets-register (core (goal.at.returns-in-SetRegister c).Start) c.args.storage_addr (change (goal.at.returns-in-SetRegister c).Start) (can (goal.at.returns-in-SetRegister c).Start) _ _ _ _ _ _ e g c.marks_after.ensures;
       values_len_unchanged = (length-set c.args.values.now _ _, drop-set-lt 10 c.args.values.now _ _ r);
@@ -141,7 +145,7 @@ returns-in-SetRegister c =
 pub returns-in-SetProduct : goal.returns-in-SetProduct
 returns-in-SetProduct c =
     let e = meant-by c.args.mark c.args.effect c.in-SetProduct.is in
-    let r = product-register-below (goal.at.returns-in-SetProduct c).In-SetProduct in
+    let r = (product-below (goal.at.returns-in-SetProduct c).Start c.in-SetProduct.is) in
     let g = take-set-lt 10 c.args.values.now _ _ r in record {
       carried_out = sets-register (core (goal.at.returns-in-SetProduct c).Start) c.args.storage_addr (change (goal.at.returns-in-SetProduct c).Start) (can (goal.at.returns-in-SetProduct c).Start) _ _ _ _ _ _ e g c.product_marks_after-product_extras.ensures;
       values_len_unchanged = (length-set c.args.values.now _ _, drop-set-lt 10 c.args.values.now _ _ r);
@@ -226,8 +230,3 @@ returns-in-Sink c =
       values_len_unchanged = (refl, refl);
     }
 
--- TUPLE write_at-requires ['at_in_bounds', 'at_in_bounds_2', 'at_in_bounds_3']
--- TUPLE insert-requires ['ordered', 'count_in_bounds', 'at_value']
--- TUPLE load_tape-cells-requires ['rising', 'used_in_bounds']
--- TUPLE append_numbers-requires ['n_in_bounds', 'n_in_bounds_2']
--- TUPLE call_contract-answer-requires ['rising', 'marks_len', 'used_in_bounds']
