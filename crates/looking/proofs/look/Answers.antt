@@ -32,10 +32,10 @@ module _ (c : After-load_values) where
   loaded = c.load_values.new.values
 
   standing : Standing c.args.machine.psp c.args.words.now loaded
-  standing = c.load_values.ensures.standing
+  standing = c.load_values.ensures.0
 
   kept : take 10 loaded ≡ c.args.machine.registers
-  kept = c.load_values.ensures.registers
+  kept = c.load_values.ensures.1
 
   same : length loaded ≡ length c.args.values.now
   same = search rules
