@@ -2,7 +2,6 @@
 use Prim.Native.Nat.{ℕ}
 use mathlib.Core.Path.{◌≡◌, sym, ap, ap₂, subst, ◌∙◌}
 use mathlib.Core.Bool.{Bool, ◌&&◌}
-use mathlib.Core.Logic.{⊎_elim}
 use mathlib.Core.List.{List}
 use lib.ListN.{length}
 use Rattle.rules.specs.Opcodes.{class_of}
@@ -15,7 +14,7 @@ use Rattle.sheets.specs.Traced.{is_refused, reads_further}
 use Rattle.looking.specs.Looks.{Seen}
 use Rattle.looking.proofs.Rows.{none_seen, some-seen}
 use Rattle.looking.proofs.look_at.Goals as goal
-use Rattle.looking.proofs.look_at.Goals.{Joined-reads_further}
+use Rattle.looking.proofs.look_at.Goals.{Joined-reads_further, then-reads_further, else-reads_further}
 
 pub returns-in_default : goal.returns-in_default
 returns-in_default c =
@@ -33,7 +32,11 @@ module _ (c : Joined-reads_further) (ns ms : List ℕ) where
       → c.if-reads_further.result ≡ (reads_further (class_of c.in-Found.opcode) && is_absent)
   unread level moment_level =
       let f = sym c.reads_further.ensures in
-      ?
+      elim c.if-reads_further.branch [
+        then-reads_further w ↦
+          w.result-is ∙ w.is_absent_below.ensures ns ms level moment_level ∙ sym (ap (λ b. b && is_absent) (f ∙ w.if-reads_further.true))
+      | else-reads_further w ↦ w.result-is ∙ w.if-reads_further.false ∙ sym (ap (λ b. b && is_absent) (f ∙ w.if-reads_further.false))
+      ]
 
 pub returns : goal.returns
 returns c =
