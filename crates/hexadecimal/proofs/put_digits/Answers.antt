@@ -16,10 +16,10 @@ pub returns-then-buffer-n : goal.returns-then-buffer-n
 returns-then-buffer-n c =
     let a = c.args in
     let h : length a.buffer.now < a.at + a.n =
-        elim c.then-buffer-n.branch [
-          then-buffer-n-via-then-buffer-n w ↦ omega arith
-        | then-buffer-n-via-else-buffer-n+then-buffer-n-2 w ↦ omega (arith, ltb-true)
-        ] in
+    elim c.then-buffer-n.branch [
+      | then-buffer-n-via-then-buffer-n w ↦ omega arith
+      | then-buffer-n-via-else-buffer-n+then-buffer-n-2 w ↦ omega (arith, ltb-true)
+    ] in
     digits-refused a.buffer.now a.at a.n a.v h
 
 pub loop-left-init : goal.loop-left-init

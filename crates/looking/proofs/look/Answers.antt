@@ -42,18 +42,18 @@ module _ (c : After-load_values) where
 
 pub returns-in_default : goal.returns-in_default
 returns-in_default c = record {
-      looks = λ ns ms tape output level moment_level.
+  looks = λ ns ms tape output level moment_level.
       let a = c.args in
       subst (Looks (program_of a.words.now) (snapshot a.machine a.addresses.now ns ms tape output)) (sym c.nothing.ensures)
       (outside-looks c.requires.loaded.table a.machine a.addresses.now ns ms tape output
       (sym c.in_default.is ∙ c.row_at.ensures));
-      values_len_unchanged = refl;
-    }
+  values_len_unchanged = refl;
+}
 
 pub prepare-requires : goal.prepare-requires
 prepare-requires c =
     let p = (at (goal.at.prepare-requires c).After-load_values).at in
- record {
+    record {
       loaded = c.requires.loaded;
       words_in_bounds = (standing (goal.at.prepare-requires c).After-load_values).long;
       at_value = omega arith;
@@ -63,7 +63,7 @@ prepare-requires c =
 pub look_at-requires : goal.look_at-requires
 look_at-requires c =
     let p = c.prepare.ensures in
- record {
+    record {
       within = row_within (table (goal.at.look_at-requires c).After-load_values) (at (goal.at.look_at-requires c).After-load_values) (p.standing c.args.machine.psp (standing (goal.at.look_at-requires c).After-load_values));
       rising = c.requires.rising;
     }

@@ -33,9 +33,9 @@ module _ (c : Joined-reads_further) (ns ms : List ℕ) where
   unread level moment_level =
       let f = sym c.reads_further.ensures in
       elim c.if-reads_further.branch [
-        then-reads_further w ↦
-          w.result-is ∙ w.is_absent_below.ensures ns ms level moment_level ∙ sym (ap (λ b. b && is_absent) (f ∙ w.if-reads_further.true))
-      | else-reads_further w ↦ w.result-is ∙ w.if-reads_further.false ∙ sym (ap (λ b. b && is_absent) (f ∙ w.if-reads_further.false))
+        | then-reads_further w ↦
+            w.result-is ∙ w.is_absent_below.ensures ns ms level moment_level ∙ sym (ap (λ b. b && is_absent) (f ∙ w.if-reads_further.true))
+        | else-reads_further w ↦ w.result-is ∙ w.if-reads_further.false ∙ sym (ap (λ b. b && is_absent) (f ∙ w.if-reads_further.false))
       ]
 
 pub returns : goal.returns

@@ -6,13 +6,13 @@ use Rattle.traced.proofs.enter.Goals as goal
 
 pub run-requires : goal.run-requires
 run-requires c = record {
-      loaded = c.requires.loaded;
-      words_in_bounds = c.requires.words_in_bounds;
-      output_value = sym c.accepts.ensures ∙ c.if-accepts.true;
-    }
+  loaded = c.requires.loaded;
+  words_in_bounds = c.requires.words_in_bounds;
+  output_value = sym c.accepts.ensures ∙ c.if-accepts.true;
+}
 
 pub returns : goal.returns
 returns c = record {
-      sheet_after = unfit _ _ _ _ (sym c.accepts.ensures ∙ c.if-accepts.false) (refused-is _ _ _ _ _ _ _ _ _ c.stop.ensures);
-      extras_value = ap (λ (r : Ran). r.extras) c.stop.ensures;
-    }
+  sheet_after = unfit _ _ _ _ (sym c.accepts.ensures ∙ c.if-accepts.false) (refused-is _ _ _ _ _ _ _ _ _ c.stop.ensures);
+  extras_value = ap (λ (r : Ran). r.extras) c.stop.ensures;
+}

@@ -23,7 +23,7 @@ unfolding traced_words traced_budget_text
 returns-in-Job c =
     let l = subst (LoadsBudgetText _ _) c.in-Job.is c.load_budget_text.ensures in
     let e = c.run_words.ensures in
- record {
+    record {
       sheet_after = rw l.0 (rw l.1.loaded at e.sheet_after);
       extras_value = e.extras_value;
     }
@@ -31,6 +31,6 @@ returns-in-Job c =
 pub returns-in-Refused : goal.returns-in-Refused
 unfolding traced_budget_text
 returns-in-Refused c = record {
-      sheet_after = job-refused _ _ _ _ (subst (LoadsBudgetText _ _) c.in-Refused.is c.load_budget_text.ensures) (refused-is _ _ _ _ _ _ _ _ _ c.stop.ensures);
-      extras_value = ap (λ (r : Ran). r.extras) c.stop.ensures;
-    }
+  sheet_after = job-refused _ _ _ _ (subst (LoadsBudgetText _ _) c.in-Refused.is c.load_budget_text.ensures) (refused-is _ _ _ _ _ _ _ _ _ c.stop.ensures);
+  extras_value = ap (λ (r : Ran). r.extras) c.stop.ensures;
+}

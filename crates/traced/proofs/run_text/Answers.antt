@@ -23,7 +23,7 @@ unfolding traced_words traced_text
 returns-in-Frames c =
     let l = subst (LoadsText _ _) c.in-Frames.is c.load_text.ensures in
     let e = c.run_words.ensures in
- record {
+    record {
       sheet_after = rw (l.0 ∙ sym l.1.loaded) e.sheet_after;
       extras_value = e.extras_value;
     }
@@ -31,6 +31,6 @@ returns-in-Frames c =
 pub returns-in-Refused : goal.returns-in-Refused
 unfolding traced_text
 returns-in-Refused c = record {
-      sheet_after = load-refused _ _ _ _ _ (subst (LoadsText _ _) c.in-Refused.is c.load_text.ensures) (refused-is _ _ _ _ _ _ _ _ _ c.stop.ensures);
-      extras_value = ap (λ (r : Ran). r.extras) c.stop.ensures;
-    }
+  sheet_after = load-refused _ _ _ _ _ (subst (LoadsText _ _) c.in-Refused.is c.load_text.ensures) (refused-is _ _ _ _ _ _ _ _ _ c.stop.ensures);
+  extras_value = ap (λ (r : Ran). r.extras) c.stop.ensures;
+}

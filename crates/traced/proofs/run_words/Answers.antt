@@ -14,7 +14,7 @@ load_words-requires c = rows-for-any _
 pub enter-requires : goal.enter-requires
 enter-requires c =
     let l = subst (Loads _ _) c.in-Frames.is c.load_words.ensures in
- record {
+    record {
       loaded = record { loads = l.0; table = l.2 };
       words_in_bounds = omega (arith, l.2.words);
     }
@@ -24,7 +24,7 @@ unfolding traced_words
 returns-in-Frames c =
     let l = subst (Loads _ _) c.in-Frames.is c.load_words.ensures in
     let e = c.enter.ensures in
- record {
+    record {
       sheet_after = rw l.0 e.sheet_after;
       extras_value = e.extras_value;
     }
@@ -32,6 +32,6 @@ returns-in-Frames c =
 pub returns-in-Refused : goal.returns-in-Refused
 unfolding traced_words
 returns-in-Refused c = record {
-      sheet_after = load-refused _ _ _ _ _ (subst (Loads _ _) c.in-Refused.is c.load_words.ensures) (refused-is _ _ _ _ _ _ _ _ _ c.stop.ensures);
-      extras_value = ap (λ (r : Ran). r.extras) c.stop.ensures;
-    }
+  sheet_after = load-refused _ _ _ _ _ (subst (Loads _ _) c.in-Refused.is c.load_words.ensures) (refused-is _ _ _ _ _ _ _ _ _ c.stop.ensures);
+  extras_value = ap (λ (r : Ran). r.extras) c.stop.ensures;
+}

@@ -21,10 +21,10 @@ fits c = sym c.accepts.ensures ∙ c.if-accepts.true
 
 pub run-requires : goal.run-requires
 run-requires c = record {
-      loaded = c.requires.loaded;
-      words_in_bounds = c.requires.words_in_bounds;
-      passed_entry = passed (given (goal.at.run-requires c).Start) c.args.mode.guarded true c.if-mode.true c.args.mode.extras (fits (goal.at.run-requires c).Then-accepts) c.requires.plain_has_no_marks;
-    }
+  loaded = c.requires.loaded;
+  words_in_bounds = c.requires.words_in_bounds;
+  passed_entry = passed (given (goal.at.run-requires c).Start) c.args.mode.guarded true c.if-mode.true c.args.mode.extras (fits (goal.at.run-requires c).Then-accepts) c.requires.plain_has_no_marks;
+}
 
 pub returns-then-mode : goal.returns-then-mode
 returns-then-mode c =

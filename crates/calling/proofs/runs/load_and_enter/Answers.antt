@@ -7,7 +7,7 @@ use Rattle.calling.proofs.runs.load_and_enter.Goals as goal
 pub enter-requires : goal.enter-requires
 enter-requires c =
     let l = subst (Loads _ _) c.in-Frames.is c.load_words.ensures in
- record {
+    record {
       loaded = record { loads = l.0; table = l.2 };
       words_in_bounds = c.requires.words_in_bounds l.2.words;
       plain_has_no_marks = c.requires.plain_has_no_marks;

@@ -17,6 +17,6 @@ unfolding plain_text
 returns c =
     let a = c.args in
     let e =
-        as_plain (load_text a.text.now) a.budget (λ (m : Marks). guarded_snapshot a.machine m a.addresses.now a.numbers.now a.moments.now [] a.tape.now a.output.now)
-        c.mode.ensures c.run_text.result c.run_text.ensures in
+    as_plain (load_text a.text.now) a.budget (λ (m : Marks). guarded_snapshot a.machine m a.addresses.now a.numbers.now a.moments.now [] a.tape.now a.output.now)
+    c.mode.ensures c.run_text.result c.run_text.ensures in
     record { output_after = e.0; extras_value = e.1 }

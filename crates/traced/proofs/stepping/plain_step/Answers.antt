@@ -6,7 +6,7 @@ use Rattle.traced.proofs.stepping.plain_step.Goals as goal
 pub run-requires : goal.run-requires
 run-requires c =
     let a = c.args in
- record {
+    record {
       loaded = c.requires.loaded;
       words_in_bounds = c.requires.words_in_bounds;
       passed_entry = passes-plain a.machine a.addresses.now a.numbers.now a.moments.now a.tape.now a.output.now c.mode.result c.mode.ensures c.requires.output_value;

@@ -56,7 +56,7 @@ pub step-ran-requires : goal.step-ran-requires
 step-ran-requires c =
     let i = c.loop-done.invariant in
     let g = i.0 in
- record {
+    record {
       loaded = c.requires.loaded;
       words_in_bounds = omega (arith, c.requires.words_in_bounds, i.1.1.1.1.1.1);
       output_value = g.enters;
@@ -90,9 +90,9 @@ shape_of-sheet-then-not-is_paused c = c.step-ran.auto.sheet ∙ kept-length _ _ 
 
 pub returns-then-not-is_paused : goal.returns-then-not-is_paused
 returns-then-not-is_paused c = record {
-      sheet_after = stops-here (program_of c.args.words.now) c.args.budget (start (goal.at.returns-then-not-is_paused c).Start) (held (goal.at.returns-then-not-is_paused c).After-step-ran) c.step-ran.result (left (goal.at.returns-then-not-is_paused c).After-step-ran) (sheet (goal.at.returns-then-not-is_paused c).After-step-ran) (gave (goal.at.returns-then-not-is_paused c).After-step-ran) (more (goal.at.returns-then-not-is_paused c).After-step-ran) c.requires.output_value (other-than-paused _ (sym c.is_paused.ensures ∙ not-true _ c.if-not-is_paused.true-raw));
-      extras_value = refl;
-    }
+  sheet_after = stops-here (program_of c.args.words.now) c.args.budget (start (goal.at.returns-then-not-is_paused c).Start) (held (goal.at.returns-then-not-is_paused c).After-step-ran) c.step-ran.result (left (goal.at.returns-then-not-is_paused c).After-step-ran) (sheet (goal.at.returns-then-not-is_paused c).After-step-ran) (gave (goal.at.returns-then-not-is_paused c).After-step-ran) (more (goal.at.returns-then-not-is_paused c).After-step-ran) c.requires.output_value (other-than-paused _ (sym c.is_paused.ensures ∙ not-true _ c.if-not-is_paused.true-raw));
+  extras_value = refl;
+}
 
 pub overflow_add-done : goal.overflow_add-done
 overflow_add-done c = omega (arith, c.loop-done-test.true, c.ranges)
@@ -134,6 +134,6 @@ shape_of-sheet c = kept-length _ _ _ c.loop-done.invariant.0
 
 pub returns : goal.returns
 returns c = record {
-      sheet_after = stops-paused (program_of c.args.words.now) c.args.budget (start (goal.at.returns c).Start) c.loop-done.invariant.0 c.requires.output_value (λ h. omega (arith, h, c.loop-done-test.false));
-      extras_value = refl;
-    }
+  sheet_after = stops-paused (program_of c.args.words.now) c.args.budget (start (goal.at.returns c).Start) c.loop-done.invariant.0 c.requires.output_value (λ h. omega (arith, h, c.loop-done-test.false));
+  extras_value = refl;
+}

@@ -50,7 +50,7 @@ index c l =
 pub look-look-requires : goal.look-look-requires
 look-look-requires c =
     let a = c.args in
- record {
+    record {
       loaded = c.requires.loaded;
       words_in_bounds = c.requires.words_in_bounds;
       rising = cells-rise a.machine a.addresses.now a.numbers.now a.moments.now a.tape.now a.output.now c.requires.output_value;
@@ -63,10 +63,10 @@ returns-then-look c ls h =
 
 pub step_without_line-requires : goal.step_without_line-requires
 step_without_line-requires c = record {
-      loaded = c.requires.loaded;
-      words_in_bounds = omega (arith, c.look-look.ensures.values_len_unchanged, c.requires.words_in_bounds);
-      output_value = c.requires.output_value;
-    }
+  loaded = c.requires.loaded;
+  words_in_bounds = omega (arith, c.look-look.ensures.values_len_unchanged, c.requires.words_in_bounds);
+  output_value = c.requires.output_value;
+}
 
 pub returns-then-sheet-at-lt-LINE_BYTES : goal.returns-then-sheet-at-lt-LINE_BYTES
 returns-then-sheet-at-lt-LINE_BYTES c ls h =
@@ -76,10 +76,10 @@ returns-then-sheet-at-lt-LINE_BYTES c ls h =
 
 pub plain_step-ran-requires : goal.plain_step-ran-requires
 plain_step-ran-requires c = record {
-      loaded = c.requires.loaded;
-      words_in_bounds = omega (arith, c.look-look.ensures.values_len_unchanged, c.requires.words_in_bounds);
-      output_value = c.requires.output_value;
-    }
+  loaded = c.requires.loaded;
+  words_in_bounds = omega (arith, c.look-look.ensures.values_len_unchanged, c.requires.words_in_bounds);
+  output_value = c.requires.output_value;
+}
 
 pub shape_of-values-then-ran-eq0 : goal.shape_of-values-then-ran-eq0
 shape_of-values-then-ran-eq0 c = c.plain_step-ran.auto.values ∙ c.look-look.ensures.values_len_unchanged

@@ -61,7 +61,7 @@ plain_step-requires c =
     let m = copy_is c.args.moments.now (replicate 2048 0) _ c.write_values-3.ensures h.moments in
     let t = copy_is c.args.tape.now (replicate 4096 0) _ c.write_values-4.ensures h.tapes in
     let o = copy_is c.args.output.now (replicate 4096 0) _ c.write_values-5.ensures h.outputs in
- record {
+    record {
       loaded = c.requires.loaded;
       words_in_bounds = c.requires.words_in_bounds;
       output_value = same-enters _ _ _ _ _ _ _ _ _ _ _ a b m t o c.requires.output_value;
