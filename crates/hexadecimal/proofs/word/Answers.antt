@@ -1,5 +1,4 @@
 -- `hexadecimal::word` meets its contract: what `eight` says of each half of the sixteen characters, put together.
-use mathlib.Core.Logic.{⊎_elim}
 use mathlib.Core.Path.{◌≡◌, sym, ◌∙◌}
 use Prim.Native.Nat.{◌+◌, ◌<◌, ◌≤◌, ◌^◌}
 use native.Mathlib.Omega.{arith}
