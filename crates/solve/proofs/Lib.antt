@@ -1,3 +1,2 @@
--- Laws for `solve_input` and `print_answer`.
-pub mod Counted
+-- A law for `print_answer`.
 pub mod Written
