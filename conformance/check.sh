@@ -47,8 +47,8 @@ done
 need_rt "the programs"
 if can_play "the library and the program solve"; then
     if build_programs cases solve; then
-        play "The library" target/bin/cases
-        play "The program solve" --solve target/bin/solve
+        play "The library" crates/cases/out/cases
+        play "The program solve" --solve crates/solve/out/solve
     else
         could_not_build "the library or the program solve"
     fi

@@ -20,7 +20,7 @@ done
 
 for compiler in "cc -std=c99" "c++ -std=c++11 -x c++"; do
     $compiler -Wall -Wextra -Wpedantic -Werror -O2 -Iinclude -o target/examples/every_call \
-        examples/c/every_call.c -x none target/staticlib/libola.a
+        examples/c/every_call.c -x none "$archive"
     target/examples/every_call
     echo "every call of include/ola.h, by ${compiler%% *}: with its buffers in one struct it does the same"
 done

@@ -14,7 +14,7 @@ import unittest
 from pathlib import Path
 
 ROOT = Path(__file__).resolve().parent.parent
-SOLVE = ROOT / "target" / "bin" / "solve"
+SOLVE = ROOT / "crates" / "solve" / "out" / "solve"
 TEXT = (ROOT / "crates" / "solve" / "stdin").read_bytes()
 LINES = (ROOT / "crates" / "solve" / "stdout").read_bytes()
 
@@ -176,5 +176,5 @@ def open_directory():
 
 if __name__ == "__main__":
     if not SOLVE.exists():
-        sys.exit(f"{SOLVE} is missing: run `rt check solve` in the repository's root first")
+        sys.exit(f"{SOLVE} is missing: run `rt run < stdin` in crates/solve first")
     unittest.main()

@@ -1,10 +1,10 @@
 /* The Ola step machine, proved: its interface for C and for whatever can call C.
  *
- * Link with libola.a, for x86-64, which `rt staticlib ola` writes to target/staticlib. The library allocates nothing, keeps nothing between
+ * Link with libola.a, for x86-64, which `rt lib` in crates/ola writes to crates/ola/out. The library allocates nothing, keeps nothing between
  * calls, reads and writes nothing but what it is lent, and uses at most 56 KB of stack, 40 KB where a program is given as words; a traced
  * run uses at most 168 KB, 152 KB from words. Calls on different records and buffers may run at the same time.
  *
- *     cc -Iinclude solve.c target/staticlib/libola.a
+ *     cc -Iinclude solve.c crates/ola/out/libola.a
  *
  * The machine has ten registers, a memory, a tape and an output. A call runs a program for at most `budget` steps: it checks all that it is
  * handed, runs, writes what is left into the same places, and fills in an answer. What a paused call leaves can be handed in again and goes

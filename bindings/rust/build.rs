@@ -1,4 +1,4 @@
-//! Links the static library, where the feature `link` asks for it: from the folder in `OLA_LIBRARY`, by default where `rt staticlib ola`
+//! Links the static library, where the feature `link` asks for it: from the folder in `OLA_LIBRARY`, by default where `rt lib` in crates/ola
 //! puts it.
 
 use std::env;
@@ -19,13 +19,13 @@ fn link() {
         .expect("the repository is two folders up");
     let folder = match env::var("OLA_LIBRARY") {
         Ok(folder) => root.join(folder),
-        Err(_) => root.join("target/staticlib"),
+        Err(_) => root.join("crates/ola/out"),
     };
     let archive = folder.join("libola.a");
     println!("cargo:rerun-if-changed={}", archive.display());
     if !archive.is_file() {
         println!(
-            "cargo::error={} is missing: run `rt staticlib ola` first, or set OLA_LIBRARY to the folder that has libola.a",
+            "cargo::error={} is missing: run `rt lib` in crates/ola first, or set OLA_LIBRARY to the folder that has libola.a",
             archive.display()
         );
     }

@@ -8,5 +8,5 @@ stop_where_missing
 
 build_library
 mkdir -p target/examples
-cc -std=c99 -Wall -Wextra -Wpedantic -Werror -O2 -Iinclude -o target/examples/c examples/c/example.c target/staticlib/libola.a
+cc -std=c99 -Wall -Wextra -Wpedantic -Werror -O2 -Iinclude -o target/examples/c examples/c/example.c "$archive"
 exec target/examples/c

@@ -1,4 +1,4 @@
-//! The proved step machine for Rust: safe functions over the static library that `rt staticlib ola` writes.
+//! The proved step machine for Rust: safe functions over the static library that `rt lib` in crates/ola writes.
 //!
 //! Each call takes what it is lent, checks it, and answers; nothing is asked of the caller. include/ola.h describes the records and the
 //! numbers of outcomes and refusals, conformance/RULES.md what the machine does.

@@ -3,7 +3,7 @@
 --
 -- At exit a walk has, of each parameter, just what the contract says of its last value (`told`). So what a callee said of parameters that
 -- were passed on to it is had as one item, whatever they are.
---     told_of                           what is had of all parameters
+--     told_of                          what is had of all parameters
 --     calls-told                       a call of a function that meets its contract
 --     ends-told, meets-told            how a walk ends, and that it meets the contract
 --     both                             two clauses of an `ensures`
@@ -19,8 +19,8 @@ use lib.Dec.{T}
 use Prim.Native.Nat.{ℕ, zero, ◌<◌, ◌^◌}
 use mathlib.Core.List.{List, [], ◌∷◌}
 use seplogic.Ra.Ura.{Ura}
-use seplogic.Ra.TreeShare.{full_share}
-use mir.Syntax.{Ty, ty_int, w64, ty_ref, ty_struct, tcons, tnil, Lifetime, named, Mutability, Fn, Name}
+use base.Fraction.{full_share}
+use mir.Syntax.{Ty, ty_int, w64, ty_ref, ty_struct, tcons, tnil, Lifetime, named, Mutability, Fn, Callee}
 use mir.Syntax.{Body, seq, call, assign, addr_of, aggregate, Opd as Operand, copy, Place, place, Step as PStep, field, deref}
 use mir.Val.{Val, vint, vptr, vstruct, vcons, vnil, has_ty, WT}
 use mir.Raw.{raw as raw_ty}
@@ -57,7 +57,7 @@ use denote.Triple.Entry.{Args, Res, alive, on_entry}
 use denote.Triple.Spec.{triple_of, Meets}
 use denote.Triple.Clauses.{Clauses, Ended, Lasts, lasts, at_exit, ensured, closing}
 use denote.Triple.End.{Kepts, Fins}
-use denote.Triple.Walked.{Stay, Stays, Goes, AllGo, fits_of, on_exit, walk_of, ends_at, walked, walk_meets}
+use denote.Triple.Walked.{Stay, Stays, Goes, AllGo, fits_of, on_exit, walk_of, ends_at, walked, walk_Meets}
 
 -- ---- what is had of parameters at exit
 module _ {n : ℕ} where
@@ -112,7 +112,7 @@ module _ {M : Type 1} {𝓤 : Ura M} (𝓛 : Logic 𝓤) (T : Ended) (c : Clause
       ((walk_of 𝓛 T told_of c).post ((κs, qs, bounds, a, valss (params_at κs) (sp κs) a), g))))
       → Meets 𝓛 T.signature (WpFn 𝓤 H 𝓣.C 𝓣.Λ f) (closing 𝓛 T c)
   meets-told 𝓣 f sp tl walk =
-      walk_meets 𝓛 T told_of (all_go 𝓛 T.signature.lifetimes T.signature.params T.kept) c
+      walk_Meets 𝓛 T told_of (all_go 𝓛 T.signature.lifetimes T.signature.params T.kept) c
       (WpFn 𝓤 H 𝓣.C 𝓣.Λ f) (WpFn-mono 𝓤 H 𝓛.laws 𝓣 f)
       (walked 𝓛 T told_of c (WpFn 𝓤 H 𝓣.C 𝓣.Λ f) sp tl (λ κs qs bounds a g are.
       via 𝓤 _ (fst∗ 𝓤 _ ((c κs a).requires g)) (walk κs qs bounds a g are)))
@@ -293,7 +293,7 @@ module _ {M : Type 1} {𝓤 : Ura M} {𝓛 : Logic 𝓤} {K : Type 0} {Γ : List
 
 -- ---- a call
 module _ {M : Type 1} {𝓤 : Ura M} {𝓛 : Logic 𝓤} {K : Type 0} {Γ : List (Item 𝓤)}
-    {E : Env 𝓤 𝓛.H} {C : Calls 𝓤 𝓛.H} {Λ : Loops 𝓤 𝓛.H} {q : Post 𝓤 𝓛.H} {f : Name} {xs : List Operand} {d : Place} {rest : Body} where
+    {E : Env 𝓤 𝓛.H} {C : Calls 𝓤 𝓛.H} {Λ : Loops 𝓤 𝓛.H} {q : Post 𝓤 𝓛.H} {f : Callee} {xs : List Operand} {d : Place} {rest : Body} where
   -- The callee takes the tokens and what its parameters own, which are the head of the context. After it there is what its result owns, the
   -- tokens, what it says of its parameters' last values, and its `ensures`. `asked` shows what it requires. The operands are read where the
   -- two items at the head are one

@@ -6,7 +6,7 @@ use mir.Val.{Val}
 use denote.Builtin.{u64}
 use denote.Laws.{Is, Tells}
 use denote.Ref.{Bor}
-use denote.Slice.{ShrSlice, MutSlice, shr_slice_vals, mut_slice_vals, shr_slice_tells, mut_slice_tells}
+use denote.Slice.{ShrSlice, MutSlice, shr_slice_vals, mut_slice_vals, shr_slice_Tells, mut_slice_Tells}
 
 abbrev pub Slice : Type 0
 Slice = Bor (List ℕ)
@@ -27,7 +27,7 @@ guarded-slices-at (a, ss) = (shr_slice_vals a, slices-at ss)
 
 -- the same for every lifetime
 pub words-tell : Tells (ShrSlice erased [] u64) (Is (ShrSlice erased [] u64)) shr_slice_vals
-words-tell = shr_slice_tells erased [] u64
+words-tell = shr_slice_Tells erased [] u64
 
 pub buffer-tells : Tells (MutSlice erased [] u64) (Is (MutSlice erased [] u64)) mut_slice_vals
-buffer-tells = mut_slice_tells erased [] u64
+buffer-tells = mut_slice_Tells erased [] u64

@@ -13,7 +13,6 @@ use Rattle.rules.specs.Results.{Result, refuse, pass}
 use Rattle.rules.specs.Frames.{load_words}
 use Rattle.rules.specs.Text.{load_text, load_budget_text}
 use Rattle.rules.specs.Cells.{number_cells}
-use Rattle.rules.specs.Step.{step}
 use Rattle.rules.specs.Answers.{Meaning, outcome, refusal, refusal_meaning}
 use Rattle.rules.specs.Entry.{Snapshot, plain_entry, environment, state_of}
 use Rattle.rules.specs.Calls.{Called, refused_call, paused_after, job_budget, job_program, plain_call, plain_words, plain_text, plain_budget_text}

@@ -16,7 +16,7 @@ use Rattle.rules.specs.Results.{Result, refuse, pass}
 use Rattle.rules.specs.Frames.{load_words}
 use Rattle.rules.specs.Text.{load_text, load_budget_text}
 use Rattle.rules.specs.Cells.{number_cells}
-use Rattle.rules.specs.Step.{Environment, State, RunEnd, run}
+use Rattle.rules.specs.Step.{Environment, State, RunEnd}
 use Rattle.rules.specs.Answers.{meaning, refusal_meaning}
 use Rattle.rules.specs.Entry.{Snapshot, plain_entry, environment, state_of, snapshot_after}
 use Rattle.rules.specs.Calls.{Called, refused_call, paused_after, plain_run_of, plain_answered, job_budget, job_program, plain_call}

@@ -12,7 +12,7 @@ use Rattle.rules.specs.declared.Answer.{Answer}
 use Rattle.rules.specs.declared.Answer.TheVariants.{Paused, Refused, ShortBuffer}
 use Rattle.rules.specs.Results.{Result, pass}
 use Rattle.rules.specs.Cells.{number_cells, mark_cells}
-use Rattle.rules.specs.Step.{Environment, State, Next, Finish, RunEnd, step, run}
+use Rattle.rules.specs.Step.{Environment, State, Next, Finish, RunEnd, step}
 use Rattle.rules.specs.Answers.{Meaning, outcome, meaning, refusal_meaning}
 use Rattle.rules.specs.Entry.{Snapshot, plain_entry, environment, state_of, snapshot_after}
 use Rattle.rules.specs.Calls.{Called, paused_after, plain_run_of}
@@ -43,7 +43,7 @@ use Rattle.sheets.specs.EveryTracedCall.{TracedStepRefused, by-plain-step, by-fu
 use Rattle.sheets.proofs.StepViews.{TracedStep, place, apart, is-unread, is-short, both-places, View, view, view-refused, view-unread, view-short, view-passed, lines-count, passes-too, BothTraced, refused-both, unread-both, short-both, passed-both}
 use Rattle.sheets.proofs.RunsBeside.{RunEnds, as_plain, at-unread, at-short, run_ends, plain-paused}
 use Rattle.sheets.proofs.RunLines.{run-lines}
-use Rattle.sheets.proofs.SameRunHolds.{here, sheet, sound, both-steps, traced-passes}
+use Rattle.sheets.proofs.SameRunHolds.{here, sound, both-steps, traced-passes}
 use Rattle.sheets.proofs.SheetLinesHold.{call-sheet}
 
 -- the promises that every call gets, of a traced one

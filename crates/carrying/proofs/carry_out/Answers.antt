@@ -59,15 +59,15 @@ bounds-values-place c = omega (arith, (register-below (goal.at.bounds-values-pla
 
 pub marks_after-requires : goal.marks_after-requires
 marks_after-requires c = record {
-      registers_lt_marks_end = c.requires.carriable.ready.register_marks;
-      register_bound = (register-below (goal.at.marks_after-requires c).Start c.in-SetRegister.is);
-    }
+  registers_lt_marks_end = c.requires.carriable.ready.register_marks;
+  register_bound = (register-below (goal.at.marks_after-requires c).Start c.in-SetRegister.is);
+}
 
 pub product_marks_after-product_extras-requires : goal.product_marks_after-product_extras-requires
 product_marks_after-product_extras-requires c = record {
-      registers_lt_marks_end = c.requires.carriable.ready.register_marks;
-      register_bound = (product-below (goal.at.product_marks_after-product_extras-requires c).Start c.in-SetProduct.is);
-    }
+  registers_lt_marks_end = c.requires.carriable.ready.register_marks;
+  register_bound = (product-below (goal.at.product_marks_after-product_extras-requires c).Start c.in-SetProduct.is);
+}
 
 pub offset_bounds-values-place-in-SetProduct : goal.offset_bounds-values-place-in-SetProduct
 offset_bounds-values-place-in-SetProduct c = omega (arith, (product-below (goal.at.offset_bounds-values-place-in-SetProduct c).Start c.in-SetProduct.is))
@@ -156,7 +156,7 @@ returns-in-StoreAt c =
     let e = meant-by c.args.mark c.args.effect c.in-StoreAt.is in
     let f = placed_by _ c.args.effect c.in-StoreAt.is c.requires.placed in
     let w = c.write_at.ensures in
- record {
+    record {
       carried_out = writes-cell (core (goal.at.returns-in-StoreAt c).Start) c.args.storage_addr (change (goal.at.returns-in-StoreAt c).Start) (can (goal.at.returns-in-StoreAt c).Start) _ _ _ _ _ _ _ _ e f w.numbers_after w.moments_after w.marks_after;
       values_len_unchanged = (refl, refl);
     }
@@ -165,7 +165,7 @@ pub returns-in-Insert : goal.returns-in-Insert
 returns-in-Insert c =
     let e = meant-by c.args.mark c.args.effect c.in-Insert.is in
     let w = c.insert.ensures in
- record {
+    record {
       carried_out = stores-cell (core (goal.at.returns-in-Insert c).Start) c.args.storage_addr (change (goal.at.returns-in-Insert c).Start) (can (goal.at.returns-in-Insert c).Start) _ _ _ _ _ _ _ _ _ e w;
       values_len_unchanged = (refl, refl);
     }
@@ -173,7 +173,7 @@ returns-in-Insert c =
 pub returns-in-Jump : goal.returns-in-Jump
 returns-in-Jump c =
     let e = meant-by c.args.mark c.args.effect c.in-Jump.is in
- record {
+    record {
       carried_out = jumps (core (goal.at.returns-in-Jump c).Start) c.args.storage_addr (change (goal.at.returns-in-Jump c).Start) (can (goal.at.returns-in-Jump c).Start) _ e;
       values_len_unchanged = (refl, refl);
     }
@@ -182,7 +182,7 @@ pub returns-in-LoadTape : goal.returns-in-LoadTape
 returns-in-LoadTape c =
     let e = meant-by c.args.mark c.args.effect c.in-LoadTape.is in
     let w = c.load_tape-cells.ensures in
- record {
+    record {
       carried_out = loads-tape (core (goal.at.returns-in-LoadTape c).Start) c.args.storage_addr (change (goal.at.returns-in-LoadTape c).Start) (can (goal.at.returns-in-LoadTape c).Start) _ _ _ _ _ _ _ _ _ e w;
       values_len_unchanged = (refl, refl);
     }
@@ -192,7 +192,7 @@ returns-in-StoreTape c =
     let e = meant-by c.args.mark c.args.effect c.in-StoreTape.is in
     let w = c.append_numbers.ensures in
     let o = c.append_numbers-in-StoreTape.ensures in
- record {
+    record {
       carried_out = stores-tape (core (goal.at.returns-in-StoreTape c).Start) c.args.storage_addr (change (goal.at.returns-in-StoreTape c).Start) (can (goal.at.returns-in-StoreTape c).Start) _ _ _ _ _ e w o;
       values_len_unchanged = (refl, refl);
     }
@@ -201,7 +201,7 @@ pub returns-in-CallContract : goal.returns-in-CallContract
 returns-in-CallContract c =
     let e = meant-by c.args.mark c.args.effect c.in-CallContract.is in
     let w = c.call_contract-answer.ensures in
- record {
+    record {
       carried_out = calls-contract (core (goal.at.returns-in-CallContract c).Start) c.args.storage_addr (change (goal.at.returns-in-CallContract c).Start) (can (goal.at.returns-in-CallContract c).Start) (four (goal.at.returns-in-CallContract c).Start) _ _ _ _ _ e w.value w.tape_after;
       values_len_unchanged = (refl, refl);
     }
@@ -209,7 +209,7 @@ returns-in-CallContract c =
 pub returns-in-End : goal.returns-in-End
 returns-in-End c =
     let e = meant-by c.args.mark c.args.effect c.in-End.is in
- record {
+    record {
       carried_out = ends-run (core (goal.at.returns-in-End c).Start) c.args.storage_addr (change (goal.at.returns-in-End c).Start) (can (goal.at.returns-in-End c).Start) _ e;
       values_len_unchanged = (refl, refl);
     }
@@ -217,7 +217,7 @@ returns-in-End c =
 pub returns-in-Refuse : goal.returns-in-Refuse
 returns-in-Refuse c =
     let e = meant-by c.args.mark c.args.effect c.in-Refuse.is in
- record {
+    record {
       carried_out = refuses-step (core (goal.at.returns-in-Refuse c).Start) c.args.storage_addr (change (goal.at.returns-in-Refuse c).Start) (can (goal.at.returns-in-Refuse c).Start) _ e;
       values_len_unchanged = (refl, refl);
     }
@@ -225,8 +225,7 @@ returns-in-Refuse c =
 pub returns-in-Sink : goal.returns-in-Sink
 returns-in-Sink c =
     let e = meant-by c.args.mark c.args.effect c.in-Sink.is in
- record {
+    record {
       carried_out = sinks (core (goal.at.returns-in-Sink c).Start) c.args.storage_addr (change (goal.at.returns-in-Sink c).Start) (can (goal.at.returns-in-Sink c).Start) e;
       values_len_unchanged = (refl, refl);
     }
-

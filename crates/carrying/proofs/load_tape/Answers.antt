@@ -12,7 +12,7 @@ store_many-requires c =
     let a = c.args in
     let e : a.from + a.n - a.from ≡ a.n = omega arith in
     let l : length (part a.from a.n a.tape.now) ≡ a.n = part_length a.tape.now a.from a.n c.requires.n_in_bounds in
- record {
+    record {
       ordered = c.requires.ordered;
       values_bound = rw (e, l) c.requires.n_bound;
       values_in_bounds = rw e c.requires.tape_in_bounds;

@@ -1,10 +1,9 @@
 -- `hexadecimal::digit_count` meets its contract. The loop's invariant: n digits are counted, one of them for what is left, which is a number of at
 -- most 17 - n digits.
-use mathlib.Core.Path.{◌≡◌, refl, ◌∙◌}
-use Prim.Native.Nat.{◌+◌, ◌-◌, ◌^◌, ◌<◌, ◌≤◌}
+use mathlib.Core.Path.{refl, ◌∙◌}
+use Prim.Native.Nat.{◌-◌, ◌≤◌}
 use native.Mathlib.Omega.{arith}
 use borrow.Author.Rules.{rules}
-use Rattle.rules.specs.Hexadecimal.{digit_count}
 use Rattle.hexadecimal.proofs.Writing.{count-done, count-le, count-more, count-bound}
 use Rattle.hexadecimal.proofs.digit_count.Goals as goal
 

@@ -1,11 +1,8 @@
 -- `hexadecimal::digit_count` meets its contract. The loop's invariant: n digits are counted, one of them for what is left, which is a number of at
 -- most 17 - n digits.
-use mathlib.Core.Path.{◌≡◌, refl, ◌∙◌}
+use mathlib.Core.Path.{◌≡◌}
 use Prim.Native.Nat.{◌+◌, ◌-◌, ◌^◌, ◌<◌, ◌≤◌}
-use native.Mathlib.Omega.{arith}
-use borrow.Author.Rules.{rules}
 use Rattle.rules.specs.Hexadecimal.{digit_count}
-use Rattle.hexadecimal.proofs.Writing.{count-done, count-le, count-more, count-bound}
 use Rattle.hexadecimal.proofs.digit_count.Given as goal
 
 abbrev pub invariant-loop-rest : goal.invariant-loop-rest

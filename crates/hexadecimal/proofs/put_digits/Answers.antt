@@ -1,13 +1,10 @@
 -- `hexadecimal::put_digits` meets its contract. The loop's invariant: what is left to write, laid over the buffer as it stands, gives what all
 -- digits laid over the buffer at entry give.
-use mathlib.Core.Logic.{⊎_elim}
-use mathlib.Core.Path.{◌≡◌, refl, ◌∙◌}
-use Prim.Native.Nat.{◌+◌, ◌-◌, ◌<◌, ◌≤◌}
+use mathlib.Core.Path.{refl, ◌∙◌}
+use Prim.Native.Nat.{◌+◌, ◌-◌, ◌<◌}
 use native.Mathlib.Omega.{arith}
 use borrow.Author.Tests.{ltb-true, ltb-false}
 use lib.ListN.{length, length-set}
-use Rattle.rules.specs.Hexadecimal.{low_digits}
-use Rattle.hexadecimal.specs.Writing.{overlay_at}
 use Rattle.hexadecimal.proofs.Writing.{digit-stored, digits-refused, digits-written}
 use Rattle.hexadecimal.proofs.put_digits.Goals as goal
 use Rattle.hexadecimal.proofs.put_digits.Goals.{then-buffer-n-via-then-buffer-n, then-buffer-n-via-else-buffer-n+then-buffer-n-2}
@@ -16,10 +13,10 @@ pub returns-then-buffer-n : goal.returns-then-buffer-n
 returns-then-buffer-n c =
     let a = c.args in
     let h : length a.buffer.now < a.at + a.n =
-        elim c.then-buffer-n.branch [
-          then-buffer-n-via-then-buffer-n w ↦ omega arith
-        | then-buffer-n-via-else-buffer-n+then-buffer-n-2 w ↦ omega (arith, ltb-true)
-        ] in
+    elim c.then-buffer-n.branch [
+      | then-buffer-n-via-then-buffer-n w ↦ omega arith
+      | then-buffer-n-via-else-buffer-n+then-buffer-n-2 w ↦ omega (arith, ltb-true)
+    ] in
     digits-refused a.buffer.now a.at a.n a.v h
 
 pub loop-left-init : goal.loop-left-init

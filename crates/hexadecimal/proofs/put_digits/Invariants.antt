@@ -1,14 +1,10 @@
 -- `hexadecimal::put_digits` meets its contract. The loop's invariant: what is left to write, laid over the buffer as it stands, gives what all
 -- digits laid over the buffer at entry give.
-use mathlib.Core.Logic.{⊎_elim}
-use mathlib.Core.Path.{◌≡◌, refl, ◌∙◌}
-use Prim.Native.Nat.{◌+◌, ◌-◌, ◌<◌, ◌≤◌}
-use native.Mathlib.Omega.{arith}
-use borrow.Author.Tests.{ltb-true, ltb-false}
-use lib.ListN.{length, length-set}
+use mathlib.Core.Path.{◌≡◌}
+use Prim.Native.Nat.{◌+◌, ◌≤◌}
+use lib.ListN.{length}
 use Rattle.rules.specs.Hexadecimal.{low_digits}
 use Rattle.hexadecimal.specs.Writing.{overlay_at}
-use Rattle.hexadecimal.proofs.Writing.{digit-stored, digits-refused, digits-written}
 use Rattle.hexadecimal.proofs.put_digits.Given as goal
 
 abbrev pub invariant-loop-left : goal.invariant-loop-left

@@ -1,5 +1,4 @@
 -- `hexadecimal::word` meets its contract: what `eight` says of each half of the sixteen characters, put together.
-use mathlib.Core.Logic.{⊎_elim}
 use mathlib.Core.Path.{◌≡◌, sym, ◌∙◌}
 use Prim.Native.Nat.{◌+◌, ◌<◌, ◌≤◌, ◌^◌}
 use native.Mathlib.Omega.{arith}
@@ -16,10 +15,10 @@ pub returns-then-s-lt16 : goal.returns-then-s-lt16
 returns-then-s-lt16 c =
     let a = c.args in
     let h : length a.s.now < a.at + 16 =
-        elim c.then-s-lt16.branch [
-          then-s-lt16-via-then-s-lt16 w ↦ omega arith
-        | then-s-lt16-via-else-s-lt16+then-s-at w ↦ omega (arith, ltb-true)
-        ] in
+    elim c.then-s-lt16.branch [
+      | then-s-lt16-via-then-s-lt16 w ↦ omega arith
+      | then-s-lt16-via-else-s-lt16+then-s-at w ↦ omega (arith, ltb-true)
+    ] in
     sym (too_short a.s.now a.at h)
 
 -- past the tests sixteen characters are there

@@ -12,7 +12,7 @@ use Rattle.rules.specs.declared.Instruction.{Instruction}
 use Rattle.rules.specs.declared.Held.{Held}
 use Rattle.rules.specs.Numbers.{p, heap_end, choose}
 use Rattle.rules.specs.Memory.{present, numbers_of, moments_of, held_of}
-use Rattle.rules.specs.Cells.{get, count, addresses, zipped, mark_cells}
+use Rattle.rules.specs.Cells.{get, count, zipped, mark_cells}
 use Rattle.rules.specs.Step.{is_storable}
 use Rattle.rules.specs.Guarded.{content_mark, cell_mark}
 use Rattle.rules.specs.Entry.{Snapshot, GuardedSnapshot, used_addresses, used_numbers, used_moments, used_marks, used_output, marked_registers, marked_cells, every, rising_from, marked_below, plain_entry, marked_numbers_below, marks_entry, guarded_entry, environment, state_of, guarded_state_of}

@@ -88,9 +88,9 @@ returns-then-r9-lt2 c =
 
 pub is_next-requires : goal.is_next-requires
 is_next-requires c = record {
-      at_lt_count = place-used c;
-      count_in_bounds = c.requires.addresses.within;
-    }
+  at_lt_count = place-used c;
+  count_in_bounds = c.requires.addresses.within;
+}
 
 pub returns-then-not-is_next : goal.returns-then-not-is_next
 returns-then-not-is_next c =
@@ -119,15 +119,15 @@ is_marked_at-mark-requires c = let h = upper-markable (goal.at.is_marked_at-mark
 
 pub held_at-lower-requires : goal.held_at-lower-requires
 held_at-lower-requires c = let h = upper-numbered (goal.at.held_at-lower-requires c).Else-not-is_next in let k = upper-dated (goal.at.held_at-lower-requires c).Else-not-is_next in record {
-      at_in_bounds = omega arith;
-      at_in_bounds_2 = omega arith;
-    }
+  at_in_bounds = omega arith;
+  at_in_bounds_2 = omega arith;
+}
 
 pub held_at-upper-requires : goal.held_at-upper-requires
 held_at-upper-requires c = record {
-      at_in_bounds = upper-numbered (goal.at.held_at-upper-requires c).Else-not-is_next;
-      at_in_bounds_2 = upper-dated (goal.at.held_at-upper-requires c).Else-not-is_next;
-    }
+  at_in_bounds = upper-numbered (goal.at.held_at-upper-requires c).Else-not-is_next;
+  at_in_bounds_2 = upper-dated (goal.at.held_at-upper-requires c).Else-not-is_next;
+}
 
 pub returns-in-Absent : goal.returns-in-Absent
 returns-in-Absent c =
@@ -140,8 +140,8 @@ clean : (c : Joined-guarded) → (c.args.guarded && eqb (get_or c.args.marks.now
 clean c =
     let x = eqb (get_or c.args.marks.now (c.in-At.at + 1) 0) 1 in
     elim c.if-guarded.branch [
-      then-guarded+else-is_marked_at w ↦ ap (λ t. t && x) w.if-guarded.true ∙ sym w.is_marked_at.ensures ∙ w.if-is_marked_at.false
-    | else-guarded w ↦ ap (λ t. t && x) w.if-guarded.false
+      | then-guarded+else-is_marked_at w ↦ ap (λ t. t && x) w.if-guarded.true ∙ sym w.is_marked_at.ensures ∙ w.if-is_marked_at.false
+      | else-guarded w ↦ ap (λ t. t && x) w.if-guarded.false
     ]
 
 -- the lower one's mark
@@ -149,8 +149,8 @@ lower : (c : Joined-guarded-2) → c.if-guarded-2.mark ≡ c.args.guarded && eqb
 lower c =
     let x = eqb (get_or c.args.marks.now c.in-At.at 0) 1 in
     elim c.if-guarded-2.branch [
-      then-guarded-2 w ↦ w.mark-is ∙ w.is_marked_at-mark.ensures ∙ sym (ap (λ t. t && x) w.if-guarded-2.true)
-    | else-guarded-2 w ↦ w.mark-is ∙ w.if-guarded-2.false ∙ sym (ap (λ t. t && x) w.if-guarded-2.false)
+      | then-guarded-2 w ↦ w.mark-is ∙ w.is_marked_at-mark.ensures ∙ sym (ap (λ t. t && x) w.if-guarded-2.true)
+      | else-guarded-2 w ↦ w.mark-is ∙ w.if-guarded-2.false ∙ sym (ap (λ t. t && x) w.if-guarded-2.false)
     ]
 
 number_of : {h : Held} {n m : ℕ} → h ≡ held n m → h.number ≡ n

@@ -19,9 +19,9 @@ returns-then-start-ge-PROPHET_END c = rw (sym c.span_fits.ensures ∙ not-false 
 
 pub find_span-requires : goal.find_span-requires
 find_span-requires c = record {
-      rising = c.requires;
-      n_bound = ltb-true (c.args.start + c.args.n) word_end (and_left (ltb (c.args.start + c.args.n) word_end) _ (sym c.span_fits.ensures ∙ not-false _ c.if-not-span_fits.false-raw));
-    }
+  rising = c.requires;
+  n_bound = ltb-true (c.args.start + c.args.n) word_end (and_left (ltb (c.args.start + c.args.n) word_end) _ (sym c.span_fits.ensures ∙ not-false _ c.if-not-span_fits.false-raw));
+}
 
 pub returns-in-At : goal.returns-in-At
 unfolding p

@@ -23,9 +23,9 @@ test_values-requires c =
 
 pub has_capacity-requires : goal.has_capacity-requires
 has_capacity-requires c = record {
-      rising = c.requires.rising;
-      n_bound = leb-false word_end (c.args.address + c.args.n) (sym c.reaches_word_end.ensures ∙ c.if-reaches_word_end.false);
-    }
+  rising = c.requires.rising;
+  n_bound = leb-false word_end (c.args.address + c.args.n) (sym c.reaches_word_end.ensures ∙ c.if-reaches_word_end.false);
+}
 
 pub returns-then-has_capacity : goal.returns-then-has_capacity
 unfolding check

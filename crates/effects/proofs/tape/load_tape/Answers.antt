@@ -18,7 +18,7 @@ load_part-requires c =
     let e = c.tape_from-from.ensures in
     let f = c.tape_count-n.ensures in
     let k = part-on-tape c.args.a c.args.b c.args.used (sym c.is_on_tape.ensures ∙ not-false _ c.if-not-is_on_tape.false-raw) in
- record {
+    record {
       rising = c.requires.rising;
       n_in_bounds = omega arith;
     }

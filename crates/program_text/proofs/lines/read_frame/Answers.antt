@@ -11,7 +11,7 @@ returns-then-text-end c =
 pub read_line-requires : goal.read_line-requires
 read_line-requires c =
     let e = c.frame_end-end.ensures in
- record {
+    record {
       at_le_end = (e.order, e.inside);
       whole_words = e.whole (omega (arith, c.if-text-end.false));
       used_bound = c.requires.used_bound;

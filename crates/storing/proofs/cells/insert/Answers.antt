@@ -12,16 +12,16 @@ place-used c = absent-within c.args.count c.args.addresses.now c.requires.ordere
 
 pub insert_held-requires : goal.insert_held-requires
 insert_held-requires c = record {
-      at_le_count = omega (arith, place-used (goal.at.insert_held-requires c).Start);
-      count_in_bounds = omega (arith, c.requires.ordered.level);
-      count_in_bounds_2 = omega (arith, c.requires.ordered.moment_level);
-    }
+  at_le_count = omega (arith, place-used (goal.at.insert_held-requires c).Start);
+  count_in_bounds = omega (arith, c.requires.ordered.level);
+  count_in_bounds_2 = omega (arith, c.requires.ordered.moment_level);
+}
 
 pub insert_at-requires : goal.insert_at-requires
 insert_at-requires c = record {
-      at_le_count = omega (arith, place-used (goal.at.insert_at-requires c).Start);
-      count_in_bounds = c.requires.count_in_bounds;
-    }
+  at_le_count = omega (arith, place-used (goal.at.insert_at-requires c).Start);
+  count_in_bounds = c.requires.count_in_bounds;
+}
 
 pub insert_at-requires-then-guarded : goal.insert_at-requires-then-guarded
 insert_at-requires-then-guarded c =

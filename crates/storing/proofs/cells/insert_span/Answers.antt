@@ -103,7 +103,7 @@ returns c =
     record {
       value = omega arith;
       addresses_after = places-numbered a.count a.low (high f) a.n (a.low + a.n - a.low) a.start a.addresses.now u.new.buffer w.new.addresses
-            e (omega arith) (omega arith) (omega arith) (moved-behind f a.addresses.now _ u.ensures) w.ensures;
+          e (omega arith) (omega arith) (omega arith) (moved-behind f a.addresses.now _ u.ensures) w.ensures;
       numbers_after = moved-behind f a.numbers.now _ m.numbers_after;
       moments_after = moved-behind f a.moments.now _ m.moments_after;
       marks_after = marks-behind f a.guarded a.marks.now _ m.marks_after;

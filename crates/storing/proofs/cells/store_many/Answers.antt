@@ -25,9 +25,9 @@ fits c =
 pub find_span-requires : goal.find_span-requires
 unfolding word_end
 find_span-requires c = record {
-      rising = c.requires.ordered.addresses;
-      n_bound = within-words c.args.start (length c.args.values.now) (omega arith) c.requires.values_bound;
-    }
+  rising = c.requires.ordered.addresses;
+  n_bound = within-words c.args.start (length c.args.values.now) (omega arith) c.requires.values_bound;
+}
 
 pub overwrite-requires : goal.overwrite-requires
 overwrite-requires c =

@@ -10,7 +10,7 @@ pub returns-then-guarded : goal.returns-then-guarded
 returns-then-guarded c =
     let q = c.if-guarded.true in
     let t : c.args.guarded ≡ true = cc in
- record {
+    record {
       numbers_after = refl;
       moments_after = refl;
       marks_after = rw t;
@@ -20,7 +20,7 @@ pub returns-else-guarded : goal.returns-else-guarded
 returns-else-guarded c =
     let q = c.if-guarded.false in
     let t : c.args.guarded ≡ false = cc in
- record {
+    record {
       numbers_after = refl;
       moments_after = refl;
       marks_after = rw t;

@@ -1,0 +1,11 @@
+-- `ola::plain_calls::ola_check_words` meets its contract: the machine is read from its record, and the answer's record is written.
+use Rattle.rules.specs.Calls.{plain_words}
+use Rattle.ola.proofs.LeftLaws.{plain-checked}
+use Rattle.ola.proofs.plain_calls.ola_check_words.Goals as goal
+
+pub returns : goal.returns
+returns c =
+    plain-checked _ (plain_words _ 0)
+    c.machine_of.ensures
+    c.check_words-given.ensures
+    c.answer_record.ensures

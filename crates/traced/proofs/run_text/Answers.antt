@@ -1,0 +1,36 @@
+-- `traced::run_text` meets its contract: the text is loaded into words, and the call is theirs.
+use mathlib.Core.Path.{sym, ap, subst, ◌∙◌}
+use native.Mathlib.Omega.{arith}
+use lib.Seq.{length-take-le}
+use Rattle.rules.specs.declared.Ran.{Ran}
+use Rattle.sheets.specs.TracedCalls.{traced_words, traced_text}
+use Rattle.program_text.specs.TextLoads.{LoadsText}
+use Rattle.traced.proofs.Called.{refused-is, load-refused}
+use Rattle.traced.proofs.run_text.Goals as goal
+
+pub slice_bounds-words-end : goal.slice_bounds-words-end
+slice_bounds-words-end c =
+    let l = subst (LoadsText _ _) c.in-Frames.is c.load_text.ensures in
+    omega (arith, l.1.within)
+
+pub slice_bounds-run_words-end : goal.slice_bounds-run_words-end
+slice_bounds-run_words-end c =
+    let l = subst (LoadsText _ _) c.in-Frames.is c.load_text.ensures in
+    sym (length-take-le _ _ (omega (arith, l.1.size, l.1.within)))
+
+pub returns-in-Frames : goal.returns-in-Frames
+unfolding traced_words traced_text
+returns-in-Frames c =
+    let l = subst (LoadsText _ _) c.in-Frames.is c.load_text.ensures in
+    let e = c.run_words.ensures in
+    record {
+      sheet_after = rw (l.0 ∙ sym l.1.loaded) e.sheet_after;
+      extras_value = e.extras_value;
+    }
+
+pub returns-in-Refused : goal.returns-in-Refused
+unfolding traced_text
+returns-in-Refused c = record {
+  sheet_after = load-refused _ _ _ _ _ (subst (LoadsText _ _) c.in-Refused.is c.load_text.ensures) (refused-is _ _ _ _ _ _ _ _ _ c.stop.ensures);
+  extras_value = ap (λ (r : Ran). r.extras) c.stop.ensures;
+}
