@@ -1,5 +1,7 @@
 // Standard input, read whole.
+ghost use Rattle.std.specs.Prelude.{◌<◌, length, take, IfOk};
 ghost use Rattle.std.specs.Io.{ReadsAtMost};
+ghost use Rattle.std.specs.Io.KnownBytes.{Consumes, IsAtEnd};
 
 use std::io;
 use std::io::{IsTerminal, Read};
@@ -16,13 +18,15 @@ pub(crate) fn prompt<T: IsTerminal, E: Eprint>(input: &T, rt: &E) {
 // Reads until the input ends or the buffer is full, and answers how many bytes stand at the buffer's start. A read that gives nothing is the
 // end, and there is no further one: a terminal would ask for a second Ctrl-D.
 pub(crate) fn read_all<R: Read>(input: &mut R, buffer: &mut [u8]) -> io::Result<usize>
-    ensures { ReadsAtMost result buffer.new }
+    ensures count { ReadsAtMost result buffer.new }
+    ensures bytes { IfOk result (λ n. Consumes (R.remaining input.old) (R.remaining input.new) (take n buffer.new)) }
+    ensures whole { IfOk result (λ n. n < length buffer.new → IsAtEnd (R.remaining input.new)) }
 {
     let mut at = 0;
     while at < buffer.len() {
         let more = input.read(&mut buffer[at..])?;
         if more == 0 {
-            break;
+            return Ok(at);
         }
         at += more;
     }

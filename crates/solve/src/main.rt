@@ -2,6 +2,10 @@
 // writing and the arguments is `executor::solve`. What went wrong is told on standard error; the exit status is always 0.
 #![tactic(auto)]
 
+ghost use Rattle.std.specs.Prelude.{OnOk};
+ghost use Rattle.std.specs.Io.KnownBytes.{Appends};
+ghost use Rattle.rules.specs.Solve.{solve};
+
 mod arguments;
 mod failure;
 mod help;
@@ -43,7 +47,9 @@ fn solve_input(rt: &HostRuntime) -> Result<(), Failure> {
 }
 
 // Runs the machine on the input, and prints the lines that came of it.
-fn print_answer<W: Write>(input: &[u8], out: &mut W) -> io::Result<()> {
+fn print_answer<W: Write>(input: &[u8], out: &mut W) -> io::Result<()>
+    ensures { OnOk result (Appends (W.contents out.old) (W.contents out.new) (solve input.now)) }
+{
     let mut lines = [0u8; LINES_SIZE];
     match executor::solve(input, &mut lines) {
         Put::Next(end) => out.write_all(&lines[..end]),
