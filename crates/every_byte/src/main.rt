@@ -8,7 +8,7 @@ ghost use Rattle.std.specs.Prelude.{◌<◌};
 use program::binary_program::Checked;
 use rules::HexWord;
 use std::io;
-use std::io::{BufWriter, Write};
+use std::io::Write;
 
 const DIGITS: usize = 16;
 
@@ -18,13 +18,13 @@ const BUDGET_TEXT: [u8; 34] = *b"................\n000000000000000b\n";
 const FRAME_TEXT: [u8; 33] = *b"0000000000000805................\n";
 
 fn main(rt: HostRuntime) -> io::Result<()> {
-    let mut out = BufWriter::new(rt.alloc(), rt.stdout())?;
+    let mut out = rt.stdout();
     for place in 0..DIGITS {
         try_bytes(*b"0123456789abcdef", place, &mut out)?;
         try_bytes(*b"9a9a9a9a9a9a9a9a", place, &mut out)?;
         try_bytes(*b"f00ff00ff00ff00f", place, &mut out)?;
     }
-    out.flush()
+    Ok(())
 }
 
 // Puts every byte at a place of a word.

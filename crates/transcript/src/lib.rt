@@ -10,23 +10,22 @@ mod show;
 
 use case_fields::parts::SIZE;
 use std::io;
-use std::io::{BufWriter, Input, Write};
+use std::io::Input;
 
 // Longer than any line.
 const BUFFER_SIZE: usize = 65_536;
 
 // Plays the standard input.
-pub fn play_input<R: Input + Print + Alloc>(rt: &R) -> io::Result<()> {
+pub fn play_input<R: Input + Print>(rt: &R) -> io::Result<()> {
     let mut text = [0u8; executor::INPUT_SIZE];
     let mut fields = [0u64; SIZE];
     let mut buffer = [0u8; BUFFER_SIZE];
-    let mut out = BufWriter::new(rt.alloc(), io::writer(rt))?;
+    let mut out = io::writer(rt);
     input::play(
         &mut rt.reader(),
         &mut text,
         &mut fields,
         &mut buffer,
         &mut out,
-    )?;
-    out.flush()
+    )
 }
