@@ -15,33 +15,10 @@ use Rattle.rules.specs.Numbers.{choose}
 use Rattle.rules.specs.Hexadecimal.{digit_of, on_digit, digits_of}
 use Rattle.rules.proofs.Laws.Computed.{at}
 use Rattle.eight_digits.specs.EightDigits.{byte, characters, eight_digits}
+use Rattle.eight_digits.proofs.Masks.{down, six, sixes, bit6, bits6, high, highs}
 use Rattle.eight_digits.proofs.Appending.{digits-snoc}
 use Rattle.eight_digits.proofs.Lanes.{lanes, rep, rep-lanes, id-lanes, same-lanes, add-lanes, times-lanes, lanes-lt, tested, and-lanes, or-lanes, xor-lanes}
 use Rattle.eight_digits.proofs.Squeeze.{pack}
-
--- how far letters are moved down, and what then tells them from the digits before: of a byte, and of all eight
-abbrev pub down : ℕ
-down = 0x27
-
-abbrev pub six : ℕ
-six = 0x06
-
-abbrev pub sixes : ℕ
-sixes = 0x0606_0606_0606_0606
-
--- bit 6, which tells: of a byte, and of all eight
-abbrev pub bit6 : ℕ
-bit6 = 0x40
-
-abbrev pub bits6 : ℕ
-bits6 = 0x4040_4040_4040_4040
-
--- the bits that no digit has
-abbrev pub high : ℕ
-high = 0xf0
-
-abbrev pub highs : ℕ
-highs = 0xf0f0_f0f0_f0f0_f0f0
 
 -- what the function computes of the word
 abbrev pub letters-of : ℕ → ℕ

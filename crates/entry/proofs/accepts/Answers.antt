@@ -52,15 +52,15 @@ pub returns : goal.returns
 unfolding p clock_end cell_limit value_limit
 returns c =
     moments-decide _
-    c.if-machine-ge-CLOCK_END.false
-    (omega (arith, c.if-addresses-machine.false))
-    (omega (arith, c.if-tape-machine.false))
-    (omega (arith, c.if-output-machine.false))
-    (omega (arith, c.if-numbers-addresses.false))
-    (omega (arith, c.if-moments-addresses.false))
-    (omega (arith, c.if-addresses-gt-CELL_LIMIT.false))
-    (omega (arith, c.if-tape-gt-VALUE_LIMIT.false))
-    (omega (arith, c.if-output-gt-VALUE_LIMIT.false))
+    (omega arith)
+    (omega arith)
+    (omega arith)
+    (omega arith)
+    (omega arith)
+    (omega arith)
+    (omega arith)
+    (omega arith)
+    (omega arith)
     (sym (c.rising.ensures ∙ ap (rising_from 0) c.used.ensures) ∙ not-false _ c.if-not-rising.false-raw)
     (sym (c.at_most.ensures ∙ ap (every (λ n. leb n p)) c.used-2.ensures) ∙ not-false _ c.if-not-at_most.false-raw)
     (c.at_most-2.ensures ∙ ap (every (λ n. leb n _)) c.used-3.ensures)

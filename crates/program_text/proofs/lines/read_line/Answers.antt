@@ -24,10 +24,10 @@ pub returns-then-frame_length-count : goal.returns-then-frame_length-count
 returns-then-frame_length-count c =
     let a = c.args in
     read-other a.text.now a.words.now c.read_words.new.words a.at a.end a.used ((a.end - a.at) / 16) c.requires.at_le_end.0 c.requires.at_le_end.1 (words-whole (goal.at.returns-then-frame_length-count c).Start) (words-least (goal.at.returns-then-frame_length-count c).Start)
-    (rw c.if-not-read_words.false at c.read_words.ensures) c.frame_length.result c.frame_length.ensures (λ e. omega (arith, c.if-frame_length-count.true))
+    (rw c.if-not-read_words.false at c.read_words.ensures) c.frame_length.result c.frame_length.ensures (λ e. omega arith)
 
 pub returns : goal.returns
 returns c =
     let a = c.args in
     read_whole a.text.now a.words.now c.read_words.new.words a.at a.end a.used ((a.end - a.at) / 16) c.requires.at_le_end.0 c.requires.at_le_end.1 (words-whole (goal.at.returns c).Start) (words-least (goal.at.returns c).Start)
-    (rw c.if-not-read_words.false at c.read_words.ensures) c.frame_length.result c.frame_length.ensures (omega (arith, c.if-frame_length-count.false))
+    (rw c.if-not-read_words.false at c.read_words.ensures) c.frame_length.result c.frame_length.ensures (omega arith)
