@@ -1,2 +1,3 @@
--- A law for `print_answer`.
+-- Laws for `answer` and `print_answer`.
+pub mod Answered
 pub mod Written

@@ -2,7 +2,7 @@
 // writing and the arguments is `executor::solve`. What went wrong is told on standard error; the exit status is always 0.
 #![tactic(auto)]
 
-ghost use Rattle.std.specs.Prelude.{OnOk};
+ghost use Rattle.std.specs.Prelude.{OnOk, IfSome};
 ghost use Rattle.std.specs.Io.KnownBytes.{Appends};
 ghost use Rattle.rules.specs.Solve.{solve};
 
@@ -14,7 +14,7 @@ mod input;
 use failure::Failure;
 use hexadecimal::Put;
 use std::io;
-use std::io::Write;
+use std::io::{Read, Write};
 
 // The lines have at most 69,703 characters (crate rules, SolveFits), so that they fit.
 const LINES_SIZE: usize = 70_000;
@@ -37,13 +37,27 @@ fn run(rt: &HostRuntime) -> Result<(), Failure> {
     }
 }
 
-// An input that fills the buffer is too long for a text, and is not read to its end. One that was read in part gets no answer.
 fn solve_input(rt: &HostRuntime) -> Result<(), Failure> {
     let mut stdin = rt.stdin();
-    let mut input = [0u8; executor::INPUT_SIZE];
     input::prompt(&stdin, rt);
-    let n = input::read_all(&mut stdin, &mut input).map_err(Failure::Input)?;
-    print_answer(&input[..n], &mut rt.stdout()).map_err(Failure::Output)
+    answer(&mut stdin, &mut rt.stdout())
+}
+
+// Reads the input, and prints what comes of it. An input that fills the buffer is too long for a text, and is not read to its end. One that
+// was read in part gets no answer.
+fn answer<R: Read, W: Write>(input: &mut R, out: &mut W) -> Result<(), Failure>
+    ensures { OnOk result (IfSome (R.remaining input.old)
+        (λ xs. Appends (W.contents out.old) (W.contents out.new) (solve xs))) }
+{
+    let mut buffer = [0u8; executor::INPUT_SIZE];
+    let n = match input::read_all(input, &mut buffer) {
+        Ok(n) => n,
+        Err(error) => return Err(Failure::Input(error)),
+    };
+    match print_answer(&buffer[..n], out) {
+        Ok(()) => Ok(()),
+        Err(error) => Err(Failure::Output(error)),
+    }
 }
 
 // Runs the machine on the input, and prints the lines that came of it.
