@@ -157,6 +157,21 @@ class Files(unittest.TestCase):
         self.assertTrue(any(max(line) > "\x7f" for line in lines))
 
 
+class Copied(unittest.TestCase):
+    """The toolchain's gate takes no links, so what stands twice in the repository is copied."""
+
+    COPIES = {"NOTICE": "NOTICE"}
+    for name, program in [("worked", "cases"), ("replayed", "replay"), ("generated", "vectors")]:
+        COPIES[f"vectors/{name}.cases"] = f"crates/{program}/stdin"
+        COPIES[f"vectors/{name}.answers"] = f"crates/{program}/stdout"
+
+    def test_copies_are_what_they_are_copies_of(self):
+        if not (HERE.parent / "crates").is_dir():
+            self.skipTest("not in the repository")
+        for copy, original in self.COPIES.items():
+            self.assertEqual((HERE / copy).read_bytes(), (HERE.parent / original).read_bytes(), copy)
+
+
 class Packed(unittest.TestCase):
     def test_the_packed_folder_is_whole(self):
         readme = (HERE / "README.md").read_text()

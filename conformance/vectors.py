@@ -9,7 +9,7 @@ FOLDER = Path(__file__).parent / "vectors"
 
 
 def read(path):
-    """A file of this folder; the links of vectors/ may lead nowhere in a copy that did not follow them."""
+    """A file of this folder."""
     try:
         return path.read_bytes()
     except OSError as error:

@@ -32,7 +32,7 @@ def prefixed(prefix, numbers):
 
 def defined_numbers():
     """Those of Numbers.antt; one may be defined as another. And the bytes of a line of the sheet."""
-    numbers = numbers_in(read("crates/sheets/specs/Lines.antt"), r"^(lineBytes) = (\d+)$")
+    numbers = numbers_in(read("crates/sheets/specs/Lines.antt"), r"^(line_bytes) = (\d+)$")
     for name, value in re.findall(r"^(\w+) = (\w+)$", read("crates/rules/specs/Numbers.antt"), re.MULTILINE):
         numbers[name] = numbers[value] if value in numbers else number(value)
     return numbers
@@ -54,18 +54,18 @@ def defined_lengths():
 VERSION = read("conformance/VERSION").strip()
 NUMBERS = defined_numbers()
 LIMITS = {
-    "MOST_FRAMES": NUMBERS["frameLimit"],
-    "MOST_BYTES": NUMBERS["textLimit"],
-    "MOST_CELLS": NUMBERS["cellLimit"],
-    "MOST_VALUES": NUMBERS["valueLimit"],
-    "CLOCK_END": NUMBERS["clockEnd"],
+    "MOST_FRAMES": NUMBERS["frame_limit"],
+    "MOST_BYTES": NUMBERS["text_limit"],
+    "MOST_CELLS": NUMBERS["cell_limit"],
+    "MOST_VALUES": NUMBERS["value_limit"],
+    "CLOCK_END": NUMBERS["clock_end"],
 }
 OUTCOMES = defined_answers("outcome")
 REFUSALS = defined_answers("refusal")
 # Of the limit and the refusal, CLOCK_END is the limit.
 REFUSALS["CLOCK_END_REACHED"] = REFUSALS.pop("CLOCK_END")
-LINE = {"LINE_BYTES": NUMBERS["lineBytes"]}
-PSP = NUMBERS["defaultPsp"]
+LINE = {"LINE_BYTES": NUMBERS["line_bytes"]}
+PSP = NUMBERS["default_psp"]
 LENGTHS = prefixed("length of ", defined_lengths())
 
 
@@ -130,8 +130,8 @@ class Numbers(unittest.TestCase):
     def test_generator(self):
         found = {name: value for name, value in runpy.run_path(str(ROOT / GENERATOR)).items() if isinstance(value, int)}
         limits = {name: LIMITS[name] for name in ["MOST_FRAMES", "MOST_CELLS", "MOST_VALUES", "CLOCK_END"]}
-        edges = {"P": NUMBERS["p"], "STACK_END": NUMBERS["stackEnd"], "HEAP_END": NUMBERS["heapEnd"]}
-        words = {"WORD": NUMBERS["wordEnd"], "MAX": NUMBERS["wordEnd"] - 1}
+        edges = {"P": NUMBERS["p"], "STACK_END": NUMBERS["stack_end"], "HEAP_END": NUMBERS["heap_end"]}
+        words = {"WORD": NUMBERS["word_end"], "MAX": NUMBERS["word_end"] - 1}
         self.hold(GENERATOR, found, {**limits, **edges, **words})
 
 

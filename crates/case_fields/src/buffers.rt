@@ -1,6 +1,6 @@
 // The numbers of a part, and the bytes of the sheet, taken out and put in.
 ghost use Rattle.std.specs.Prelude.{◌+◌, ◌≤◌, ◌<◌, length};
-ghost use Rattle.io.specs.Counts.{IsPrefixLen};
+ghost use Rattle.case_fields.specs.Counts.{IsPrefixLen};
 ghost use Rattle.case_fields.specs.Parts.{IsPart, longest, size};
 
 use crate::parts;

@@ -1,6 +1,8 @@
 // The program `cases`: plays the cases of its standard input (crates/transcript).
 #![tactic(auto)]
 
-fn main() {
-    transcript::play_input();
+use std::io;
+
+fn main(rt: HostRuntime) -> io::Result<()> {
+    transcript::play_input(&rt)
 }

@@ -5,9 +5,10 @@
 
 ghost use Rattle.std.specs.Prelude.{◌<◌};
 
-use libc::STDOUT_FILENO;
 use program::binary_program::Checked;
 use rules::HexWord;
+use std::io;
+use std::io::Write;
 
 const DIGITS: usize = 16;
 
@@ -16,41 +17,38 @@ const BUDGET_TEXT: [u8; 34] = *b"................\n000000000000000b\n";
 
 const FRAME_TEXT: [u8; 33] = *b"0000000000000805................\n";
 
-fn main() {
-    let mut place = 0;
-    while place < DIGITS {
-        try_bytes(*b"0123456789abcdef", place);
-        try_bytes(*b"9a9a9a9a9a9a9a9a", place);
-        try_bytes(*b"f00ff00ff00ff00f", place);
-        place += 1;
+fn main(rt: HostRuntime) -> io::Result<()> {
+    let mut out = rt.stdout();
+    for place in 0..DIGITS {
+        try_bytes(*b"0123456789abcdef", place, &mut out)?;
+        try_bytes(*b"9a9a9a9a9a9a9a9a", place, &mut out)?;
+        try_bytes(*b"f00ff00ff00ff00f", place, &mut out)?;
     }
+    Ok(())
 }
 
 // Puts every byte at a place of a word.
-fn try_bytes(word: [u8; DIGITS], place: usize)
+fn try_bytes<W: Write>(word: [u8; DIGITS], place: usize, out: &mut W) -> io::Result<()>
     requires { place < 16 }
 {
     let mut tried = word;
-    let mut byte: u64 = 0;
-    while byte < 256 {
-        tried[place] = byte as u8;
-        try_word(tried);
-        byte += 1;
+    for byte in 0..=u8::MAX {
+        tried[place] = byte;
+        try_word(tried, out)?;
     }
+    Ok(())
 }
 
-fn try_word(word: [u8; DIGITS]) {
+fn try_word<W: Write>(word: [u8; DIGITS], out: &mut W) -> io::Result<()> {
     let mut budget_text = BUDGET_TEXT;
     let mut frame_text = FRAME_TEXT;
-    let mut i = 0;
-    while i < DIGITS {
+    for i in 0..DIGITS {
         budget_text[i] = word[i];
         frame_text[DIGITS + i] = word[i];
-        i += 1;
     }
     let in_budget = is_program(program_text::check_budget_text(&budget_text));
     let in_frame = is_program(program_text::check_text(&frame_text));
-    show(hexadecimal::word(&word, 0), in_budget, in_frame);
+    show(hexadecimal::word(&word, 0), in_budget, in_frame, out)
 }
 
 fn is_program(checked: Checked) -> bool {
@@ -60,26 +58,26 @@ fn is_program(checked: Checked) -> bool {
     }
 }
 
-fn show(read: HexWord, in_budget: bool, in_frame: bool) {
+fn show<W: Write>(read: HexWord, in_budget: bool, in_frame: bool, out: &mut W) -> io::Result<()> {
     match read {
-        HexWord::Word(v) => show_word(v),
+        HexWord::Word(v) => show_word(v, out)?,
         HexWord::NotHex => {
             if !in_budget && !in_frame {
-                return;
+                return Ok(());
             }
         }
     }
     if in_budget {
-        io::write_all(STDOUT_FILENO, b" budget");
+        out.write_all(b" budget")?;
     }
     if in_frame {
-        io::write_all(STDOUT_FILENO, b" frame");
+        out.write_all(b" frame")?;
     }
-    io::write_all(STDOUT_FILENO, b"\n");
+    out.write_all(b"\n")
 }
 
-fn show_word(v: u64) {
+fn show_word<W: Write>(v: u64, out: &mut W) -> io::Result<()> {
     let mut digits = [0u8; DIGITS];
     hexadecimal::put_16(0, v, &mut digits);
-    io::write_all(STDOUT_FILENO, &digits);
+    out.write_all(&digits)
 }

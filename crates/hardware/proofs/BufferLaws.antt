@@ -20,7 +20,6 @@ use Rattle.rules.proofs.Laws.CellLaws.{length-addresses, addresses-zipped, conte
 use Rattle.rules.proofs.Laws.HeldLaws.{numbers-held, moments-held, length-held, get_or-held, mapped, addresses-mapped, contents-mapped, count-mapped, put-mapped, zipped-mapped}
 use Rattle.hardware.specs.declared.cells.Found.TheVariants as Found
 use Rattle.hardware.specs.declared.cells.Cell.{Cell}
-use Rattle.hardware.specs.declared.cells.Cell.TheVariants as Cell
 use Rattle.hardware.specs.declared.cells.Span.TheVariants as Span
 use Rattle.hardware.specs.Buffers.{rank, last_at_most, has, found_of, has_all, span_of, missing, cells_of, mark_cells_of, cell_of, put_many, Rising, Ordered, Holding}
 use Rattle.hardware.specs.Places.{insert_at, filled, consecutive, spliced}

@@ -9,11 +9,8 @@ use Rattle.rules.specs.Step.{overlay}
 use Rattle.rules.specs.Guarded.{cell_mark}
 use Rattle.rules.specs.Entry.{rising_from}
 use Rattle.hardware.specs.declared.cells.Found.{Found}
-use Rattle.hardware.specs.declared.cells.Found.TheVariants as Found
 use Rattle.hardware.specs.declared.cells.Cell.{Cell}
-use Rattle.hardware.specs.declared.cells.Cell.TheVariants as Cell
 use Rattle.hardware.specs.declared.cells.Span.{Span}
-use Rattle.hardware.specs.declared.cells.Span.TheVariants as Span
 
 -- Among rising addresses
 

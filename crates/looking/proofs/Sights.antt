@@ -6,7 +6,6 @@ use mathlib.Core.List.{List}
 use lib.Dec.{leb, lit<}
 use lib.ListN.{length, get_or, take}
 use Rattle.rules.specs.declared.OlaOpcode.{OlaOpcode}
-use Rattle.rules.specs.declared.OlaOpcode.TheVariants as OlaOpcode
 use Rattle.rules.specs.declared.Instruction.{Instruction}
 use Rattle.rules.specs.declared.Machine.{Machine}
 use Rattle.rules.specs.declared.Refusal.{Refusal}

@@ -1,3 +1,3 @@
--- Laws for `solve_input` and `print_answer`.
-pub mod Counted
+-- Laws for `answer` and `print_answer`.
+pub mod Answered
 pub mod Written

@@ -1,10 +1,12 @@
--- What was written into a buffer lies within it.
+-- What was written at a buffer's start is its first bytes.
 use Prim.Native.Nat.{ℕ, ◌+◌, ◌≤◌}
 use mathlib.Core.Path.{◌≡◌, refl, sym, ap, ◌∙◌}
 use mathlib.Core.Bool.{Bool, true, false}
 use mathlib.Core.List.{List, ◌++◌}
 use native.Mathlib.Omega.{arith}
-use lib.ListN.{length, drop, length-append}
+use lib.ListN.{length, take, drop}
+use Rattle.std.proofs.Math.Seq.{take-append_seam}
+use Rattle.std.proofs.lemmas.List.{length-append}
 use Rattle.hexadecimal.specs.declared.Put.{Put}
 use Rattle.hexadecimal.specs.declared.Put.TheVariants.{Next, NoSpace}
 use Rattle.hexadecimal.specs.Writing.{fits, overlay_at, Writes}
@@ -13,14 +15,23 @@ abbrev next : Put → ℕ
 next (Next n) = n
 next NoSpace = 0
 
-pub written-within : (cs b after : List ℕ) (r : Put) (end : ℕ) → r ≡ Next end → Writes cs b 0 r after → end ≤ length after
+pub record Written (cs after : List ℕ) (end : ℕ) : Type 0 where
+  pub within : end ≤ length after
+  pub first : take end after ≡ cs
+
+pub written : (cs b after : List ℕ) (r : Put) (end : ℕ) → r ≡ Next end → Writes cs b 0 r after → Written cs after end
 unfolding overlay_at
-written-within cs b after r end q w = go (fits b 0 cs) refl
+written cs b after r end q w = go (fits b 0 cs) refl
   where
-    go : (t : Bool) → fits b 0 cs ≡ t → end ≤ length after
+    go : (t : Bool) → fits b 0 cs ≡ t → Written cs after end
     go true e =
         let n : end ≡ 0 + length cs = sym (ap next q) ∙ ap next (rw e at w.answer) in
-        let a : after ≡ cs ++ drop (0 + length cs) b = rw e at w.written in
-        let l : length after ≡ length cs + length (drop (0 + length cs) b) = rw a (length-append cs (drop (0 + length cs) b)) in
-        omega arith
+        let k : end ≡ length cs = omega arith in
+        let rest = drop (0 + length cs) b in
+        let a : after ≡ cs ++ rest = rw e at w.written in
+        let l : length after ≡ length cs + length rest = rw a (length-append cs rest) in
+        record {
+          within = omega arith;
+          first = rw k (rw a (take-append_seam cs rest));
+        }
     go false e = let f = rw e at w.answer in let z : ◌≡◌ {A = ℕ} 0 1 = cc in absurd (omega arith)

@@ -1,33 +1,55 @@
 // The arguments: `--help` alone, or none.
+use crate::failure::Failure;
 use crate::help::print_help;
-use libc::STDERR_FILENO;
+use std::env::{Env, FillError};
+use std::io;
+use std::io::Write;
 
-// Does what the one argument asks for. One that is longer than the buffer, 4,096 bytes, is refused without its text.
-pub(crate) fn follow() {
-    let mut argument = io::buffer();
-    let n = os::arg(1, &mut argument);
-    if check::same(&argument[..n], b"--help") {
-        print_help();
-    } else {
-        refuse(&argument[..n]);
+// An argument that is longer is refused without its text.
+const ARGUMENT_SIZE: usize = 4096;
+
+// How many arguments come after the program's own name: none, one or more.
+pub(crate) fn count<E: Env>(env: &E) -> usize {
+    if is_missing(1, env) {
+        return 0;
+    }
+    if is_missing(2, env) {
+        return 1;
+    }
+    2
+}
+
+fn is_missing<E: Env>(place: usize, env: &E) -> bool {
+    match env.arg(place, &mut []) {
+        Err(FillError::NotPresent) => true,
+        _ => false,
     }
 }
 
-pub(crate) fn refuse_many() {
-    io::write_all(STDERR_FILENO, b"solve: more than one argument");
-    point_to_help();
+// Does what the one argument asks for.
+pub(crate) fn follow(rt: &HostRuntime) -> Result<(), Failure> {
+    let mut buffer = [0u8; ARGUMENT_SIZE];
+    let n = rt.arg(1, &mut buffer).unwrap_or(0);
+    let argument = &buffer[..n];
+    if argument == b"--help".as_slice() {
+        return print_help(&mut rt.stdout()).map_err(Failure::Output);
+    }
+    let _ = refuse(argument, &mut rt.stderr());
+    Ok(())
 }
 
-fn refuse(argument: &[u8]) {
-    io::write_all(STDERR_FILENO, b"solve: unknown argument '");
-    io::write_all(STDERR_FILENO, argument);
-    io::write_all(STDERR_FILENO, b"'");
-    point_to_help();
+pub(crate) fn refuse_many<W: Write>(err: &mut W) -> io::Result<()> {
+    err.write_all(b"solve: more than one argument")?;
+    point_to_help(err)
 }
 
-fn point_to_help() {
-    io::write_all(
-        STDERR_FILENO,
-        b"\nsolve --help says what it reads and prints\n",
-    );
+fn refuse<W: Write>(argument: &[u8], err: &mut W) -> io::Result<()> {
+    err.write_all(b"solve: unknown argument '")?;
+    err.write_all(argument)?;
+    err.write_all(b"'")?;
+    point_to_help(err)
+}
+
+fn point_to_help<W: Write>(err: &mut W) -> io::Result<()> {
+    err.write_all(b"\nsolve --help says what it reads and prints\n")
 }

@@ -1,8 +1,9 @@
 // What `solve --help` prints.
-use crate::output::print;
+use std::io;
+use std::io::Write;
 
-pub(crate) fn print_help() {
-    print(
+pub(crate) fn print_help<W: Write>(out: &mut W) -> io::Result<()> {
+    out.write_all(
         b"solve runs a program on the step machine, and prints what came of it.
 
     solve < FILE
@@ -34,5 +35,5 @@ other number hexadecimal.
 A read or a write that fails is told on standard error. The exit status is
 always 0.
 ",
-    );
+    )
 }

@@ -1,42 +1,34 @@
-// Standard input, read whole, with a failed read told from the end.
-ghost use Rattle.io.specs.Counts.{IsPrefixLen};
-ghost use Rattle.solve.specs.Reading.{bytes_read};
+// Standard input, read whole.
+ghost use Rattle.std.specs.Prelude.{◌<◌, length, take, IfOk};
+ghost use Rattle.std.specs.Io.{ReadsAtMost};
+ghost use Rattle.std.specs.Io.KnownBytes.{Consumes, IsAtEnd};
 
-use libc::{STDERR_FILENO, STDIN_FILENO};
-
-// How many bytes stand at the buffer's start, or that a read failed, for which errno has the reason.
-#[derive(Clone, Copy)]
-pub(crate) enum Read {
-    Bytes(usize),
-    Failed,
-}
+use std::io;
+use std::io::{IsTerminal, Read};
 
 // Says to a person at a terminal what is waited for.
-pub(crate) fn prompt() {
-    if libc::isatty(STDIN_FILENO) == 1 {
-        io::write_all(
-            STDERR_FILENO,
-            b"solve waits for a budget line, then a line for each frame; Ctrl-D ends the input\n",
+pub(crate) fn prompt<T: IsTerminal, E: Eprint>(input: &T, rt: &E) {
+    if input.is_terminal() {
+        let _ = eprintln!(rt;
+            "solve waits for a budget line, then a line for each frame; Ctrl-D ends the input"
         );
     }
 }
 
-// Reads until the input ends or the buffer is full. A read that gives nothing is the end, and there is no further one: a terminal would
-// ask for a second Ctrl-D.
-pub(crate) fn read_all(buffer: &mut [u8]) -> Read
-    ensures { IsPrefixLen (bytes_read result) buffer.new }
+// Reads until the input ends or the buffer is full, and answers how many bytes stand at the buffer's start. A read that gives nothing is the
+// end, and there is no further one: a terminal would ask for a second Ctrl-D.
+pub(crate) fn read_all<R: Read>(input: &mut R, buffer: &mut [u8]) -> io::Result<usize>
+    ensures count { ReadsAtMost result buffer.new }
+    ensures bytes { IfOk result (λ n. Consumes (R.remaining input.old) (R.remaining input.new) (take n buffer.new)) }
+    ensures whole { IfOk result (λ n. n < length buffer.new → IsAtEnd (R.remaining input.new)) }
 {
     let mut at = 0;
     while at < buffer.len() {
-        let got = libc::read(STDIN_FILENO, &mut buffer[at..]);
-        if got < 0 {
-            return Read::Failed;
-        }
-        let more = io::count(got, &buffer[at..]);
+        let more = input.read(&mut buffer[at..])?;
         if more == 0 {
-            break;
+            return Ok(at);
         }
         at += more;
     }
-    Read::Bytes(at)
+    Ok(at)
 }

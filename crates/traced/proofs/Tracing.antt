@@ -17,7 +17,7 @@ use Rattle.rules.specs.Step.{Environment, State, Next, Finish, goes_on, ends, ca
 use Rattle.rules.specs.Entry.{Snapshot, environment, state_of, snapshot_after}
 use Rattle.rules.specs.Calls.{plain_run_of}
 use Rattle.sheets.specs.Lines.{is_short}
-use Rattle.sheets.specs.Traced.{TracedResult, short, passes, after, unread_where, short_where, TracedState, TracedNext, on_traced_step, traced_run}
+use Rattle.sheets.specs.Traced.{TracedResult, passes, after, unread_where, short_where, TracedState, TracedNext, on_traced_step, traced_run}
 use Rattle.sheets.specs.StepBeside.{meets_unread, line_here, beside_plain}
 use Rattle.sheets.specs.TracedEnds.{TracedEnd, end_at, end_of}
 use Rattle.sheets.proofs.Stepping.{traced-beside}

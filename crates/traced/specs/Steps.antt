@@ -1,7 +1,6 @@
 -- What a traced step gives, by the rules' run of one step.
 use Rattle.std.specs.Prelude.{ℕ, ◌+◌, ◌*◌, ◌≤◌, ◌≡◌, Bool, true, false, List, ◌++◌, eqb, length}
 use Rattle.rules.specs.declared.Answer.{Answer}
-use Rattle.rules.specs.declared.Answer.TheVariants as Answer
 use Rattle.rules.specs.declared.Answer.TheVariants.{ShortBuffer}
 use Rattle.rules.specs.declared.Instruction.{Instruction}
 use Rattle.rules.specs.declared.Ran.{Ran}

@@ -7,49 +7,42 @@ use case_fields::parts;
 use case_fields::parts::{Fields, LONGEST};
 use case_fields::text::first_bytes;
 use hexadecimal::Put;
-use libc::STDOUT_FILENO;
 use rules::{Answer, Ran};
+use std::io;
+use std::io::Write;
 use traced::LINE_BYTES;
 
 // More than the longest line of an answer.
 const LINE_SIZE: usize = 128;
 
-pub(crate) fn print(text: &[u8]) {
-    io::write_all(STDOUT_FILENO, text);
-}
-
-// A text, and a word in shortest hexadecimal.
-fn print_word(before: &[u8], v: u64) {
-    print(before);
-    io::print_hex(STDOUT_FILENO, v, 1);
-}
-
 // The answer's line, the callee, and what changed since it was last shown.
-pub(crate) fn show(ran: Ran, fields: &Fields, shown: &mut Fields) {
-    let answer = ran.answer;
-    show_answer(ran);
-    show_calling(answer);
+pub(crate) fn show<W: Write>(
+    ran: Ran,
+    fields: &Fields,
+    shown: &mut Fields,
+    out: &mut W,
+) -> io::Result<()> {
+    show_answer(ran, out)?;
+    show_calling(ran.answer, out)?;
     note_clock(ran.steps, fields, shown);
-    show_changes(b"registers", parts::REGISTERS, fields, shown);
-    show_changes(b"state", parts::STATE, fields, shown);
-    show_changes(b"used", parts::USED, fields, shown);
-    show_changes(b"addresses", parts::ADDRESSES, fields, shown);
-    show_changes(b"numbers", parts::NUMBERS, fields, shown);
-    show_changes(b"moments", parts::MOMENTS, fields, shown);
-    show_changes(b"marks", parts::MARKS, fields, shown);
-    show_changes(b"tape", parts::TAPE, fields, shown);
-    show_changes(b"output", parts::OUTPUT, fields, shown);
-    show_sheet(fields, shown);
+    show_changes("registers", parts::REGISTERS, fields, shown, out)?;
+    show_changes("state", parts::STATE, fields, shown, out)?;
+    show_changes("used", parts::USED, fields, shown, out)?;
+    show_changes("addresses", parts::ADDRESSES, fields, shown, out)?;
+    show_changes("numbers", parts::NUMBERS, fields, shown, out)?;
+    show_changes("moments", parts::MOMENTS, fields, shown, out)?;
+    show_changes("marks", parts::MARKS, fields, shown, out)?;
+    show_changes("tape", parts::TAPE, fields, shown, out)?;
+    show_changes("output", parts::OUTPUT, fields, shown, out)?;
+    show_sheet(fields, shown, out)
 }
 
 // The line that `solve` prints.
-fn show_answer(ran: Ran) {
-    let answer = ran.answer;
-    let machine = ran.machine;
-    let none = [0u64; 1];
+fn show_answer<W: Write>(ran: Ran, out: &mut W) -> io::Result<()> {
     let mut line = [0u8; LINE_SIZE];
-    if let Put::Next(end) = report::print(answer, ran.steps, machine, &none[..0], &mut line) {
-        print(first_bytes(end, &line));
+    match report::print(ran.answer, ran.steps, ran.machine, &[], &mut line) {
+        Put::Next(end) => out.write_all(first_bytes(end, &line)),
+        Put::NoSpace => Ok(()),
     }
 }
 
@@ -61,75 +54,79 @@ fn note_clock(steps: u64, fields: &Fields, shown: &mut Fields) {
     }
 }
 
-fn show_calling(answer: Answer) {
+fn show_calling<W: Write>(answer: Answer, out: &mut W) -> io::Result<()> {
     match answer {
-        Answer::Calling(a, b, c, d) => show_callee(a, b, c, d),
-        Answer::DelegateCalling(a, b, c, d) => show_callee(a, b, c, d),
-        _ => {}
+        Answer::Calling(a, b, c, d) => show_callee(a, b, c, d, out),
+        Answer::DelegateCalling(a, b, c, d) => show_callee(a, b, c, d, out),
+        _ => Ok(()),
     }
 }
 
-fn show_callee(a: u64, b: u64, c: u64, d: u64) {
-    print(b"callee");
-    print_word(b" ", a);
-    print_word(b" ", b);
-    print_word(b" ", c);
-    print_word(b" ", d);
-    print(b"\n");
+fn show_callee<W: Write>(a: u64, b: u64, c: u64, d: u64, out: &mut W) -> io::Result<()> {
+    writeln!(out, "callee {a:x} {b:x} {c:x} {d:x}")
 }
 
 // Each place of a part whose number is another than was last shown.
-fn show_changes(name: &[u8], part: usize, fields: &Fields, shown: &mut Fields)
+fn show_changes<W: Write>(
+    name: &str,
+    part: usize,
+    fields: &Fields,
+    shown: &mut Fields,
+    out: &mut W,
+) -> io::Result<()>
     requires { IsPart part }
 {
     let mut named = false;
-    let mut i = 0;
-    while i < LONGEST {
+    for i in 0..LONGEST {
         let at = part + 1 + i;
-        named = show_change(name, named, i, shown[at], fields[at]);
-        shown[at] = fields[at];
-        i += 1;
+        if shown[at] != fields[at] {
+            show_change(name, named, i, fields[at], out)?;
+            named = true;
+            shown[at] = fields[at];
+        }
     }
     if named {
-        print(b"\n");
+        out.write_all(b"\n")?;
     }
+    Ok(())
 }
 
-// A place whose number changed, after the name where that is not shown yet. Answers whether the name is shown.
-fn show_change(name: &[u8], named: bool, place: usize, before: u64, now: u64) -> bool {
-    if before == now {
-        return named;
-    }
+// A place and its number, after the name where that is not shown yet.
+fn show_change<W: Write>(
+    name: &str,
+    named: bool,
+    place: usize,
+    now: u64,
+    out: &mut W,
+) -> io::Result<()> {
     if !named {
-        print(name);
+        write!(out, "{name}")?;
     }
-    print_word(b" ", place as u64);
-    print_word(b"=", now);
-    true
+    write!(out, " {place:x}={now:x}")
 }
 
 // Each piece of the sheet that is not as it was last shown.
-fn show_sheet(fields: &Fields, shown: &mut Fields) {
+fn show_sheet<W: Write>(fields: &Fields, shown: &mut Fields, out: &mut W) -> io::Result<()> {
     let mut sheet = [0u8; LONGEST];
     let length = fill_sheet(fields, &mut sheet);
-    show_pieces(&sheet[..length], shown);
+    show_pieces(&sheet[..length], shown, out)
 }
 
-fn show_pieces(sheet: &[u8], shown: &mut Fields)
+fn show_pieces<W: Write>(sheet: &[u8], shown: &mut Fields, out: &mut W) -> io::Result<()>
     requires { length sheet.now ≤ longest }
 {
-    let mut piece = 0;
+    let mut piece: u64 = 0;
     let mut from = 0;
     while from < sheet.len() {
         let end = piece_end(from, sheet.len());
         if put_bytes(&sheet[from..end], from, shown) {
-            print_word(b"sheet ", piece);
-            print(b" ");
-            print_line(&sheet[from..end]);
+            write!(out, "sheet {piece:x} ")?;
+            print_line(&sheet[from..end], out)?;
         }
         piece += 1;
         from = end;
     }
+    Ok(())
 }
 
 // Where the piece from a place on ends: the last one may be shorter.
@@ -144,9 +141,10 @@ fn piece_end(from: usize, length: usize) -> usize
 }
 
 // A text as a line, whether its line feed is in it or not.
-fn print_line(text: &[u8]) {
-    print(text);
+fn print_line<W: Write>(text: &[u8], out: &mut W) -> io::Result<()> {
+    out.write_all(text)?;
     if text.len() == 0 || text[text.len() - 1] != b'\n' {
-        print(b"\n");
+        out.write_all(b"\n")?;
     }
+    Ok(())
 }

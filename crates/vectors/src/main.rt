@@ -1,6 +1,8 @@
 // The program `vectors`: plays the generated vectors of conformance/ (crates/transcript).
 #![tactic(auto)]
 
-fn main() {
-    transcript::play_input();
+use std::io;
+
+fn main(rt: HostRuntime) -> io::Result<()> {
+    transcript::play_input(&rt)
 }

@@ -1,6 +1,5 @@
 -- `carrying::product_marks_after` meets its contract: in a plain run the marks rest.
 use mathlib.Core.Path.{ap, ◌∙◌}
-use mathlib.Core.Bool.{Bool}
 use Rattle.carrying.specs.Steps.{register_marks_after}
 use Rattle.carrying.proofs.product_marks_after.Goals as goal
 

@@ -1,11 +1,8 @@
 -- `entry::at_most` meets its contract. The loop's invariant: whether all numbers pass is whether those from place i on do.
-use mathlib.Core.Path.{◌≡◌, refl, sym, ◌∙◌}
-use Prim.Native.Nat.{◌-◌, ◌≤◌}
+use mathlib.Core.Path.{refl, sym, ◌∙◌}
 use native.Mathlib.Omega.{arith}
 use lib.Dec.{leb}
-use lib.ListN.{length, drop}
 use borrow.Author.Tests.{le-leb, lt-leb}
-use Rattle.rules.specs.Entry.{every}
 use Rattle.entry.proofs.Elements.{every_more, every-fails, every-end}
 use Rattle.entry.proofs.at_most.Goals as goal
 

@@ -1,10 +1,8 @@
 -- `entry::marked_below` meets its contract. The loop's invariant: whether all marked numbers are below p is whether those from place i on are.
-use mathlib.Core.Path.{◌≡◌, refl, sym, ◌∙◌}
-use Prim.Native.Nat.{◌-◌, ◌≤◌}
+use mathlib.Core.Path.{refl, sym, ◌∙◌}
 use native.Mathlib.Omega.{arith}
-use lib.ListN.{length, drop}
+use lib.ListN.{drop}
 use borrow.Author.Tests.{not-true, not-false}
-use Rattle.rules.specs.Entry.{marked_below}
 use Rattle.entry.proofs.Elements.{marked, marked-end, cells-more, cells-fail, cells-end}
 use Rattle.entry.proofs.marked_below.Goals as goal
 

@@ -1,11 +1,9 @@
 -- `entry::marked_below` meets its contract. The loop's invariant: whether all marked numbers are below p is whether those from place i on are.
-use mathlib.Core.Path.{◌≡◌, refl, sym, ◌∙◌}
+use mathlib.Core.Path.{◌≡◌}
 use Prim.Native.Nat.{◌-◌, ◌≤◌}
-use native.Mathlib.Omega.{arith}
 use lib.ListN.{length, drop}
-use borrow.Author.Tests.{not-true, not-false}
 use Rattle.rules.specs.Entry.{marked_below}
-use Rattle.entry.proofs.Elements.{marked, marked-end, cells-more, cells-fail, cells-end}
+use Rattle.entry.proofs.Elements.{marked}
 use Rattle.entry.proofs.marked_below.Given as goal
 
 abbrev pub invariant-loop-i : goal.invariant-loop-i

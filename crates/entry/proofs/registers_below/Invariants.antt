@@ -1,12 +1,9 @@
 -- `entry::registers_below` meets its contract. The loop's invariant: whether all marked registers are below p is whether those from place i on
 -- are, by the bits that are left.
-use mathlib.Core.Path.{◌≡◌, refl, sym, ◌∙◌}
+use mathlib.Core.Path.{◌≡◌}
 use Prim.Native.Nat.{◌-◌, ◌≤◌}
-use native.Mathlib.Omega.{arith}
 use lib.ListN.{drop}
-use borrow.Author.Tests.{not-true, not-false}
 use Rattle.rules.specs.Entry.{low_bits, marked_below}
-use Rattle.entry.proofs.Elements.{registers-more, registers-fail, marked-end}
 use Rattle.entry.proofs.registers_below.Given as goal
 
 abbrev pub invariant-loop-i : goal.invariant-loop-i

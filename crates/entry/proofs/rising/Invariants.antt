@@ -1,11 +1,8 @@
 -- `entry::rising` meets its contract. The loop's invariant: whether all addresses rise is whether those from place i on rise from `least` on.
-use mathlib.Core.Path.{◌≡◌, refl, sym, ◌∙◌}
+use mathlib.Core.Path.{◌≡◌}
 use Prim.Native.Nat.{◌-◌, ◌≤◌}
-use native.Mathlib.Omega.{arith}
 use lib.ListN.{length, drop}
-use Rattle.rules.specs.Numbers.{heap_end}
 use Rattle.rules.specs.Entry.{rising_from}
-use Rattle.entry.proofs.Elements.{rising-more, rising-low, rising-high, rising-end}
 use Rattle.entry.proofs.rising.Given as goal
 
 abbrev pub invariant-loop-i : goal.invariant-loop-i

@@ -1,12 +1,7 @@
 -- `effects::tape::bound_of` meets its contract. The loop's invariant: what bounds the bits so far and the values that are left bounds all.
-use Prim.Native.Nat.{ℕ, ◌-◌, ◌≤◌, zero-le}
-use mathlib.Core.Path.{◌≡◌}
-use mathlib.Core.Bool.{true}
+use Prim.Native.Nat.{zero-le}
 use native.Mathlib.Nat.{le_refl}
 use native.Mathlib.Omega.{arith}
-use lib.Dec.{leb}
-use lib.ListN.{length, drop}
-use Rattle.rules.specs.Entry.{every}
 use Rattle.effects.proofs.StoreTests.{bound-next, bound-end}
 use Rattle.effects.proofs.tape.bound_of.Goals as goal
 

@@ -1,12 +1,10 @@
 -- `effects::tape::test_each` meets its contract: what is left of the tests is all that is left of the whole.
-use Prim.Native.Nat.{◌+◌, ◌-◌, ◌≤◌}
-use mathlib.Core.Path.{◌≡◌, sym, ◌∙◌}
+use Prim.Native.Nat.{◌+◌}
+use mathlib.Core.Path.{sym, ◌∙◌}
 use native.Mathlib.Nat.{add-zero}
 use native.Mathlib.Omega.{arith}
-use lib.ListN.{length, drop}
 use borrow.Author.Rules.{rules}
 use Rattle.rules.specs.Numbers.{word_end}
-use Rattle.effects.specs.Operations.{tests_of}
 use Rattle.effects.proofs.StoreTests.{tests-pass, tests-refuse, tests-end}
 use Rattle.effects.proofs.tape.test_each.Goals as goal
 

@@ -1,13 +1,8 @@
 -- `effects::tape::test_each` meets its contract: what is left of the tests is all that is left of the whole.
 use Prim.Native.Nat.{◌+◌, ◌-◌, ◌≤◌}
-use mathlib.Core.Path.{◌≡◌, sym, ◌∙◌}
-use native.Mathlib.Nat.{add-zero}
-use native.Mathlib.Omega.{arith}
+use mathlib.Core.Path.{◌≡◌}
 use lib.ListN.{length, drop}
-use borrow.Author.Rules.{rules}
-use Rattle.rules.specs.Numbers.{word_end}
 use Rattle.effects.specs.Operations.{tests_of}
-use Rattle.effects.proofs.StoreTests.{tests-pass, tests-refuse, tests-end}
 use Rattle.effects.proofs.tape.test_each.Given as goal
 
 abbrev pub invariant-loop-i : goal.invariant-loop-i

@@ -1,9 +1,7 @@
 -- `hardware::cells::any_marked` meets its contract. The loop's invariant: what is left of the span tells of all of it.
-use Prim.Native.Nat.{◌+◌, ◌-◌, ◌≤◌, zero-le}
-use mathlib.Core.Path.{◌≡◌, sym, ◌∙◌}
+use Prim.Native.Nat.{zero-le}
+use mathlib.Core.Path.{sym, ◌∙◌}
 use native.Mathlib.Omega.{arith}
-use lib.ListN.{take, drop}
-use Rattle.hardware.specs.Buffers.{any_mark}
 use Rattle.hardware.proofs.SpanLaws.{marks-start, marks-end, mark-here, mark-behind}
 use Rattle.hardware.proofs.cells.any_marked.Goals as goal
 

@@ -1,10 +1,8 @@
 -- `hardware::cells::any_marked` meets its contract. The loop's invariant: what is left of the span tells of all of it.
-use Prim.Native.Nat.{◌+◌, ◌-◌, ◌≤◌, zero-le}
-use mathlib.Core.Path.{◌≡◌, sym, ◌∙◌}
-use native.Mathlib.Omega.{arith}
+use Prim.Native.Nat.{◌+◌, ◌-◌, ◌≤◌}
+use mathlib.Core.Path.{◌≡◌}
 use lib.ListN.{take, drop}
 use Rattle.hardware.specs.Buffers.{any_mark}
-use Rattle.hardware.proofs.SpanLaws.{marks-start, marks-end, mark-here, mark-behind}
 use Rattle.hardware.proofs.cells.any_marked.Given as goal
 
 abbrev pub invariant-loop-i : goal.invariant-loop-i

@@ -1,7 +1,6 @@
 -- `hardware::cells::last_at_most` meets its contract. The first loop's invariant: the last that is at most `address` lies among the places
 -- from low on that are left. The second's: `last` is the last of the first low + i.
-use Prim.Native.Nat.{ℕ, suc, ◌+◌, ◌*◌, ◌-◌, ◌/◌, min, ◌≤◌}
-use mathlib.Core.Path.{◌≡◌}
+use Prim.Native.Nat.{ℕ, suc, ◌+◌, ◌*◌, ◌-◌, ◌/◌, ◌≤◌}
 use native.Mathlib.Omega.{arith}
 use lib.Dec.{leb}
 use lib.ListN.{length, get_or}

@@ -1,13 +1,9 @@
 -- `hardware::cells::last_at_most` meets its contract. The first loop's invariant: the last that is at most `address` lies among the places
 -- from low on that are left. The second's: `last` is the last of the first low + i.
-use Prim.Native.Nat.{ℕ, suc, ◌+◌, ◌*◌, ◌-◌, ◌/◌, min, ◌≤◌}
+use Prim.Native.Nat.{suc, ◌+◌, ◌-◌, min, ◌≤◌}
 use mathlib.Core.Path.{◌≡◌}
-use native.Mathlib.Omega.{arith}
-use lib.Dec.{leb}
-use lib.ListN.{length, get_or}
+use lib.ListN.{length}
 use Rattle.hardware.specs.Buffers.{rank, last_at_most}
-use Rattle.hardware.proofs.RankLaws.{rank-length, byte-most}
-use Rattle.hardware.proofs.EighthLaws.{passed, passed-most, eighth, one_more}
 use Rattle.hardware.proofs.cells.last_at_most.Given as goal
 
 abbrev pub invariant-loop-left : goal.invariant-loop-left

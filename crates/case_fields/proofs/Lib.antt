@@ -1,2 +1,0 @@
--- A law for the counts that the contracts promise.
-pub mod Counting

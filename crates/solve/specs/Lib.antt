@@ -1,2 +1,0 @@
--- What the contracts of `solve` cite.
-pub mod Reading
