@@ -1,6 +1,7 @@
 -- `calling::runs::enter` meets its contract: the entry's tests pass and the run is made, or the call is refused 3.
 use mathlib.Core.Path.{◌≡◌, sym, ◌∙◌}
 use mathlib.Core.Bool.{true, false}
+use borrow.Author.Rules.{rules}
 use Rattle.rules.specs.Entry.{GuardedSnapshot}
 use Rattle.interpreter.specs.Runs.{handed}
 use Rattle.checking.specs.ModeCalls.{mode_entry}
@@ -44,4 +45,4 @@ returns-then-accepts c =
 
 pub returns : goal.returns
 returns c =
-    unfit _ _ (given (goal.at.returns c).Start) _ c.args.mode.guarded c.accepts.result c.accepts.ensures c.if-accepts.false (refused-is _ _ _ _ _ _ _ _ _ _ c.refuse.ensures)
+    unfit _ _ (given (goal.at.returns c).Start) _ c.args.mode.guarded c.accepts.result c.accepts.ensures (search rules) (refused-is _ _ _ _ _ _ _ _ _ _ c.refuse.ensures)
