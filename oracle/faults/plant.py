@@ -12,7 +12,6 @@ with their stored output. Progress goes to standard error, the table to standard
 import os
 import pathlib
 import shutil
-import signal
 import subprocess
 import tempfile
 
@@ -23,9 +22,9 @@ from generator.frames import KINDS, OPCODES, UNCOVERED
 FAULTS = pathlib.Path(__file__).with_name("faults.txt")
 PROGRAMS = ["cases", "replay", "every_byte"]
 
-# `rt try` runs the interpreter, which gives up on inputs as long as these, and then native builds. What this one writes decides; the slow
-# one that comes after it is not waited for.
-BUILD = "the native program at -O3"
+# `rt try` runs the interpreter, which would give up on inputs as long as these and is stopped at once, and then a native build, which decides.
+TRY = ["rt", "try", "--steps", "1"]
+ENDED = "run=ended "
 
 REFUSALS = range(1, 20)
 
@@ -113,26 +112,20 @@ def copy_sources(copy):
 
 def notices(copy, program):
     """Does the program, built from the copy, write something else than is expected?"""
-    said = [""]
-    with subprocess.Popen(
-        ["rt", "try", program],
-        cwd=copy,
+    folder = copy / "crates" / program
+    given = folder / "stdin"
+    done = subprocess.run(
+        TRY,
+        cwd=folder,
         env={**os.environ, "TMPDIR": str(copy)},
-        stdout=subprocess.PIPE,
-        stderr=subprocess.STDOUT,
-        text=True,
-        start_new_session=True,
-    ) as process:
-        for line in process.stdout:
-            said.append(line.strip())
-            if BUILD in line:
-                break
-        os.killpg(process.pid, signal.SIGKILL)
-    if said[-1] == f"ok: {BUILD} ended and wrote what is expected":
-        return False
-    if said[-1] == f"FAIL: {BUILD} ended, but did not write what is expected":
-        return True
-    raise RuntimeError(f"`rt try {program}` comes to no result:" + "\n  ".join(said))
+        input=given.read_bytes() if given.exists() else b"",
+        capture_output=True,
+        check=False,
+    )
+    said = done.stderr.decode().strip().split("\n")
+    if not said[-1].startswith(ENDED):
+        raise RuntimeError(f"`rt try` in {program} comes to no result:" + "\n  ".join(["", *said]))
+    return done.stdout != (folder / "stdout").read_bytes()
 
 
 def noticed_by(fault):
