@@ -166,7 +166,7 @@ class Copied(unittest.TestCase):
         COPIES[f"vectors/{name}.answers"] = f"crates/{program}/stdout"
 
     def test_copies_are_what_they_are_copies_of(self):
-        if not (HERE.parent / "crates").is_dir():
+        if not (HERE.parent / "crates" / "cases" / "stdin").is_file():
             self.skipTest("not in the repository")
         for copy, original in self.COPIES.items():
             self.assertEqual((HERE / copy).read_bytes(), (HERE.parent / original).read_bytes(), copy)

@@ -1,5 +1,5 @@
 // The input, read in pieces into a buffer that is longer than any line.
-ghost use Rattle.std.specs.Prelude.{◌≤◌, length, IfOk};
+ghost use Rattle.std.specs.Prelude.{◌≡◌, ◌≤◌, length, IfOk};
 ghost use Rattle.case_fields.specs.Counts.{IsPrefixLen};
 
 use crate::lines::play_line;
@@ -34,7 +34,8 @@ pub(crate) fn play<R: Read, W: Write>(
 // Reads into the buffer from a place on until it is full or the input ends, and answers the place after what was read.
 fn read_after<R: Read>(input: &mut R, at: usize, buffer: &mut [u8]) -> io::Result<usize>
     requires { at ≤ length buffer.old }
-    ensures { IfOk result (λ end. IsPrefixLen end buffer.new) }
+    ensures read { IfOk result (λ end. IsPrefixLen end buffer.new) }
+    ensures length_kept { length buffer.new ≡ length buffer.old }
 {
     let mut end = at;
     while end < buffer.len() {
