@@ -11,10 +11,9 @@ use Rattle.rules.specs.declared.Answer.TheVariants.{Refused}
 use Rattle.rules.specs.declared.Refusal.{Refusal}
 use Rattle.rules.specs.declared.Refusal.TheVariants.{BadState}
 use Rattle.rules.specs.Results.{Result, refuse, pass}
-use Rattle.rules.specs.Text.{Job}
 use Rattle.rules.specs.Answers.{meaning}
 use Rattle.rules.specs.Entry.{GuardedSnapshot}
-use Rattle.rules.specs.Calls.{Called, refused_call, plain_call, guarded_call, job_budget, job_program}
+use Rattle.rules.specs.Calls.{Called, refused_call, plain_call, guarded_call}
 use Rattle.rules.specs.Handed.{guarded_snapshot, guarded_called}
 use Rattle.checking.specs.ModeCalls.{mode_entry, mode_call}
 
@@ -43,7 +42,3 @@ module _ (program : List Instruction) (budget : ℕ) (g : GuardedSnapshot) (c : 
 module _ (guarded : Bool) (budget : ℕ) (g : GuardedSnapshot) (c : Called GuardedSnapshot) where
   pub load-refused : (loaded : Result (List Instruction)) (f : Refusal) → loaded ≡ refuse f → c ≡ refused_call f g → c ≡ mode_call guarded loaded budget g
   load-refused loaded f h e = rw h (e ∙ refused-call budget g guarded f)
-
-pub job-refused : (guarded : Bool) (g : GuardedSnapshot) (c : Called GuardedSnapshot) (loaded : Result Job) (f : Refusal) → loaded ≡ refuse f → c ≡ refused_call f g
-    → c ≡ mode_call guarded (job_program loaded) (job_budget loaded) g
-job-refused guarded g c loaded f h e = rw h (e ∙ refused-call 0 g guarded f)

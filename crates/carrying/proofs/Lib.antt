@@ -1,5 +1,4 @@
 -- Laws of what the loop holds, and of each change carried out.
-pub mod Parts
 pub mod Fitting
 pub mod Holding
 pub mod Arms

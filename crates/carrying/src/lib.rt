@@ -14,10 +14,10 @@ ghost use Rattle.effects.specs.Carrying.{part, call_values};
 ghost use Rattle.carrying.specs.Cores.{core_of};
 ghost use Rattle.carrying.specs.Steps.{call_answer, register_marks_after, clk_after, core_after, Carriable, CarriedOut};
 
-use effects::{Counts, Effect, EffectKind, Mode};
+use effects::{Counts, Effect, Mode};
 use rules::{Answer, Marks};
 
-// How a step leaves the run: it goes on; it ends or calls; or the step is refused.
+// How a step leaves the run: it goes on; it ends or calls; or the step is refused. No `Result`: the last two leave a machine alike.
 #[derive(Clone, Copy)]
 pub enum Finish {
     GoesOn,
@@ -35,6 +35,7 @@ pub struct Stepped {
 }
 
 // The registers' marks after one register was written; in a plain run they rest.
+#[tactic(auto, unfolding(crate::specs::Steps::register_marks_after))]
 fn marks_after(mode: Mode, register: usize, mark: bool) -> Marks
     requires registers_lt_marks_end { mode.extras.registers < marks_end }
     requires register_bound { register < 10 }
@@ -49,6 +50,7 @@ fn marks_after(mode: Mode, register: usize, mark: bool) -> Marks
 }
 
 // The same for a product. The mode comes first here too: a plain run does not look whether a product is blanked.
+#[tactic(auto, unfolding(crate::specs::Steps::register_marks_after))]
 fn product_marks_after(
     mode: Mode,
     register: usize,
@@ -117,14 +119,8 @@ fn load_tape(
 fn call_values(storage_addr: [u64; 4], callee: [u64; 4], delegate: bool) -> [u64; 12]
     ensures { result ≡ call_values storage_addr callee delegate }
 {
-    let s0 = storage_addr[0];
-    let s1 = storage_addr[1];
-    let s2 = storage_addr[2];
-    let s3 = storage_addr[3];
-    let c0 = callee[0];
-    let c1 = callee[1];
-    let c2 = callee[2];
-    let c3 = callee[3];
+    let [s0, s1, s2, s3] = storage_addr;
+    let [c0, c1, c2, c3] = callee;
     if delegate {
         return [s0, s1, s2, s3, c0, c1, c2, c3, s0, s1, s2, s3];
     }
@@ -150,15 +146,16 @@ fn call_contract(
     let callee = hardware::cells::read_four(at, numbers);
     let values = call_values(storage_addr, callee, delegate);
     storing::tape::write_values(&values, &mut tape[count..]);
+    let [c0, c1, c2, c3] = callee;
     if delegate {
-        return Answer::DelegateCalling(callee[0], callee[1], callee[2], callee[3]);
+        return Answer::DelegateCalling(c0, c1, c2, c3);
     }
-    Answer::Calling(callee[0], callee[1], callee[2], callee[3])
+    Answer::Calling(c0, c1, c2, c3)
 }
 
 // Carries an effect out: registers, which are the first of the values, and buffers are changed in place, the rest is handed back. `mark`
 // is that of the registers that the effect's number is made of; clk, which is that before the step, is the moment of every cell that it
-// writes.
+// writes. The buffers are parameters of their own: a struct of them would be one of `&mut`, beside which Rattle covers no ghost field.
 pub fn carry_out(
     mode: Mode,
     effect: Effect,
@@ -192,64 +189,73 @@ pub fn carry_out(
         × (drop 10 values.new ≡ drop 10 values.old) }
 {
     let moment = clk;
-    let extras = mode.extras;
-    let kind = effect.kind;
-    let place = effect.place;
-    let count = effect.count;
-    let next = effect.next;
-    match kind {
-        EffectKind::SetRegister => {
-            values[place] = effect.number;
+    let stays = Stepped {
+        pc,
+        counts,
+        extras: mode.extras,
+        finish: Finish::GoesOn,
+    };
+    match effect {
+        Effect::SetRegister {
+            register,
+            number,
+            marked,
+            next,
+        } => {
+            values[register] = number;
             Stepped {
                 pc: next,
-                counts,
-                extras: marks_after(mode, place, effect.flag | mark),
-                finish: Finish::GoesOn,
+                extras: marks_after(mode, register, marked | mark),
+                ..stays
             }
         }
         // the marks first: they are made of the operands, which are then no longer needed
-        EffectKind::SetProduct => {
-            let product_extras = product_marks_after(
-                mode,
-                place,
-                effect.op0,
-                effect.flag,
-                effect.op1,
-                mark,
-            );
-            values[place] = effect.number;
+        Effect::SetProduct {
+            register,
+            number,
+            op0,
+            op0_mark,
+            op1,
+            next,
+        } => {
+            let extras = product_marks_after(mode, register, op0, op0_mark, op1, mark);
+            values[register] = number;
             Stepped {
                 pc: next,
-                counts,
-                extras: product_extras,
-                finish: Finish::GoesOn,
+                extras,
+                ..stays
             }
         }
-        EffectKind::StoreAt => {
+        Effect::StoreAt {
+            place,
+            number,
+            next,
+            ..
+        } => {
             storing::cells::write_at(
                 mode.guarded,
                 place,
-                effect.number,
+                number,
                 moment,
                 mark,
                 numbers,
                 moments,
                 marks,
             );
-            Stepped {
-                pc: next,
-                counts,
-                extras,
-                finish: Finish::GoesOn,
-            }
+            Stepped { pc: next, ..stays }
         }
-        EffectKind::Insert => {
+        Effect::Insert {
+            place,
+            address,
+            number,
+            next,
+        } => {
             storing::cells::insert(
                 mode.guarded,
                 counts.cells,
                 place,
-                effect.address,
-                effect.number,
+                address,
+                number,
                 moment,
                 mark,
                 addresses,
@@ -257,31 +263,28 @@ pub fn carry_out(
                 moments,
                 marks,
             );
-            let cells = counts.cells + 1;
             Stepped {
                 pc: next,
                 counts: Counts {
-                    cells,
-                    tape: counts.tape,
-                    output: counts.output,
+                    cells: counts.cells + 1,
+                    ..counts
                 },
-                extras,
-                finish: Finish::GoesOn,
+                ..stays
             }
         }
-        EffectKind::Jump => Stepped {
-            pc: next,
-            counts,
-            extras,
-            finish: Finish::GoesOn,
-        },
-        EffectKind::LoadTape => {
+        Effect::Jump { next } => Stepped { pc: next, ..stays },
+        Effect::LoadTape {
+            from,
+            count,
+            address,
+            next,
+        } => {
             let cells = load_tape(
                 mode.guarded,
                 counts.cells,
-                place,
+                from,
                 count,
-                effect.address,
+                address,
                 moment,
                 addresses,
                 numbers,
@@ -291,69 +294,52 @@ pub fn carry_out(
             );
             Stepped {
                 pc: next,
-                counts: Counts {
-                    cells,
-                    tape: counts.tape,
-                    output: counts.output,
-                },
-                extras,
-                finish: Finish::GoesOn,
+                counts: Counts { cells, ..counts },
+                ..stays
             }
         }
-        EffectKind::StoreTape => {
+        Effect::StoreTape { place, count, next } => {
             storing::cells::append_numbers(counts.tape, place, count, numbers, tape);
             storing::cells::append_numbers(counts.output, place, count, numbers, output);
-            let tape_count = counts.tape + count;
-            let output_count = counts.output + count;
             Stepped {
                 pc: next,
                 counts: Counts {
-                    cells: counts.cells,
-                    tape: tape_count,
-                    output: output_count,
+                    tape: counts.tape + count,
+                    output: counts.output + count,
+                    ..counts
                 },
-                extras,
-                finish: Finish::GoesOn,
+                ..stays
             }
         }
-        EffectKind::CallContract => {
-            let answer = call_contract(
-                storage_addr,
-                counts.tape,
-                place,
-                effect.flag,
-                numbers,
-                tape,
-            );
-            let tape_count = counts.tape + 12;
+        Effect::CallContract {
+            place,
+            delegates,
+            next,
+        } => {
+            let answer = call_contract(storage_addr, counts.tape, place, delegates, numbers, tape);
             Stepped {
                 pc: next,
                 counts: Counts {
-                    cells: counts.cells,
-                    tape: tape_count,
+                    tape: counts.tape + 12,
                     output: 0,
+                    ..counts
                 },
-                extras,
                 finish: Finish::Leaves(answer),
+                ..stays
             }
         }
-        EffectKind::End => Stepped {
+        Effect::End { next } => Stepped {
             pc: next,
-            counts,
-            extras,
             finish: Finish::Leaves(Answer::Ended),
+            ..stays
         },
-        EffectKind::Refuse(refusal) => Stepped {
-            pc,
-            counts,
-            extras,
+        Effect::Refuse(refusal) => Stepped {
             finish: Finish::Refuses(Answer::Refused(refusal)),
+            ..stays
         },
-        EffectKind::Sink => Stepped {
-            pc,
-            counts,
-            extras,
+        Effect::Sink => Stepped {
             finish: Finish::Refuses(Answer::MarkedSink),
+            ..stays
         },
     }
 }

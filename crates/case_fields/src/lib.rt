@@ -1,11 +1,7 @@
-// A case, read from text: its numbers stand in one array, the fields, its program's text in another (conformance/FORMAT.md).
-//
-// Internal: some functions ask that a number be a part's place. They touch nothing but what they are lent.
+// A case, read from text: what its lines give, each kind of line in a part of its own (conformance/FORMAT.md).
 #![tactic(auto)]
 
-pub mod buffers;
-pub mod lines;
-pub mod machines;
-pub mod numbers;
+pub mod case;
 pub mod parts;
+pub mod snapshot;
 pub mod text;

@@ -1,75 +1,64 @@
-// Where the parts of a case's fields lie: one part for each kind of line. A part's first place has how many numbers the line gave, those
-// after it have the numbers.
+// A part: what the lines of one kind give.
+ghost use Rattle.std.specs.Prelude.{◌≡◌, length, min, take};
+ghost use Rattle.std.specs.Option.{unwrap_or};
+
+use hexadecimal::digit;
 
 // The most numbers of a line, and the longest buffer that a case can lend.
 pub const LONGEST: usize = 4097;
 
-pub const PART: usize = LONGEST + 1;
+// What is said of a line that is none of the format's.
+#[derive(Clone, Copy)]
+pub struct NotUnderstood;
 
-pub const WORDS: usize = 0;
+#[derive(Clone, Copy)]
+pub struct Part {
+    // How many numbers the last such line gave; none where the case has no such line.
+    pub count: Option<usize>,
+    pub numbers: [u64; LONGEST],
+}
 
-pub const REGISTERS: usize = PART;
+impl Part {
+    // A part with one number at every place.
+    pub(crate) fn filled(count: Option<usize>, number: u64) -> Part {
+        Part {
+            count,
+            numbers: [number; LONGEST],
+        }
+    }
 
-pub const STATE: usize = 2 * PART;
+    // The numbers that the last line gave.
+    pub fn given(&self) -> &[u64]
+        ensures { result.now ≡ take (unwrap_or self.now.count 0) self.now.numbers }
+    {
+        &self.numbers[..self.count.unwrap_or(0).min(LONGEST)]
+    }
 
-pub const USED: usize = 3 * PART;
+    // The first places, as many as are lent, but no more than there are.
+    pub(crate) fn lend(&mut self, capacity: u64) -> &mut [u64]
+        ensures { length result.now ≡ min capacity LONGEST }
+    {
+        &mut self.numbers[..(capacity as usize).min(LONGEST)]
+    }
 
-pub(crate) const BUFFERS: usize = 4 * PART;
+    // Reads the numbers of a line, one behind each space. Of a line that is not understood, what stands before the fault is taken.
+    pub fn read(&mut self, line: &[u8]) -> Result<(), NotUnderstood> {
+        let mut count = 0;
+        for digits in line.split(|c| *c == b' ').skip(1) {
+            let number = self.numbers.get_mut(count).ok_or(NotUnderstood)?;
+            *number = 0;
+            for c in digits {
+                *number = with_digit(*number, *c).ok_or(NotUnderstood)?;
+            }
+            count += 1;
+        }
+        self.count = Some(count);
+        Ok(())
+    }
+}
 
-pub const ADDRESSES: usize = 5 * PART;
-
-pub const NUMBERS: usize = 6 * PART;
-
-pub const MOMENTS: usize = 7 * PART;
-
-pub const MARKS: usize = 8 * PART;
-
-pub const TAPE: usize = 9 * PART;
-
-pub const OUTPUT: usize = 10 * PART;
-
-pub const BUDGET: usize = 11 * PART;
-
-pub(crate) const ZEROS: usize = 12 * PART;
-
-pub(crate) const TEXT: usize = 13 * PART;
-
-// What the line `sheet` gives, and the bytes of the sheet, one to a place.
-pub(crate) const SHEET_LINE: usize = 14 * PART;
-
-pub const SHEET: usize = 15 * PART;
-
-pub const SIZE: usize = 16 * PART;
-
-pub type Fields = [u64; SIZE];
-
-// What stands where no line has put anything. Of a place of the sheet only the low byte counts, so that each is 0xEE.
-pub const UNUSED: u64 = 0xEEEE_EEEE_EEEE_EEEE;
-
-// The word of the registers' marks, after the ten registers.
-pub const REGISTER_MARKS: usize = REGISTERS + 11;
-
-pub const PC: usize = STATE + 1;
-
-pub const CLK: usize = STATE + 2;
-
-// How many cells are used.
-pub(crate) const CELLS: usize = USED + 1;
-
-// How much of each buffer is lent.
-pub const ADDRESSES_LENGTH: usize = BUFFERS + 1;
-
-pub const NUMBERS_LENGTH: usize = BUFFERS + 2;
-
-pub const MARKS_LENGTH: usize = BUFFERS + 3;
-
-pub const TAPE_LENGTH: usize = BUFFERS + 4;
-
-pub const OUTPUT_LENGTH: usize = BUFFERS + 5;
-
-pub const MOMENTS_LENGTH: usize = BUFFERS + 6;
-
-pub const SHEET_LENGTH: usize = SHEET_LINE + 1;
-
-// How many bytes the text has.
-pub const TEXT_LENGTH: usize = TEXT + 1;
+// A number with one more digit; of more than sixteen the last sixteen count.
+#[tactic(auto, using(hexadecimal::proofs::Digits::digit_lt))]
+fn with_digit(number: u64, c: u8) -> Option<u64> {
+    Some(number % 0x1000_0000_0000_0000 * 16 + digit(c)?)
+}

@@ -1,51 +1,58 @@
-// The program's text: its bytes stand in an array of their own, their count in the fields. What does not fit is left out.
-use crate::numbers::read_numbers;
-use crate::parts::{Fields, TEXT_LENGTH, ZEROS};
+// The program's text.
+ghost use Rattle.std.specs.Prelude.{◌≡◌, [], ◌++◌, replicate, take};
 
-// Where the text of a line `line TEXT` begins.
-const AFTER_LINE: usize = 5;
+use std::marker::Model;
 
-// The first bytes, so many or all.
-pub fn first_bytes(count: usize, bytes: &[u8]) -> &[u8] {
-    if count <= bytes.len() {
-        &bytes[..count]
-    } else {
-        bytes
-    }
+// One byte more than the longest text has.
+const SIZE: usize = program_text::TEXT_LIMIT + 1;
+
+// The bytes of the text so far. What goes beyond its places is left out.
+#[derive(Drop)]
+pub struct Text {
+    bytes: [u8; SIZE],
+    length: usize,
 }
 
-// One more byte, and the count with it.
-fn put(at: usize, byte: u8, text: &mut [u8]) -> usize {
-    if text.len() <= at {
-        return at;
-    }
-    text[at] = byte;
-    at + 1
+impl Model for Text {
+    ghost use Rattle.std.specs.Prelude.{ℕ, ◌≤◌, List, take};
+    ghost use Rattle.case_fields.specs.declared.text.TheConstants.{SIZE};
+
+    ghost Value = { List ℕ };
+
+    ghost view = { λ t. take t.length t.bytes };
+
+    ghost invariant = { λ t. t.length ≤ SIZE };
 }
 
-// Adds what stands after `line `, and a line feed; the line is always understood.
-pub(crate) fn add_line(line: &[u8], text: &mut [u8], fields: &mut Fields) -> bool {
-    let mut at = fields[TEXT_LENGTH] as usize;
-    let mut i = AFTER_LINE;
-    while i < line.len() {
-        at = put(at, line[i], text);
-        i += 1;
+impl Text {
+    pub(crate) fn new() -> Text
+        ensures { result ≡ [] }
+    {
+        Text {
+            bytes: [0; SIZE],
+            length: 0,
+        }
     }
-    fields[TEXT_LENGTH] = put(at, b'\n', text) as u64;
-    true
-}
 
-// Adds as many digits 0 as the line says, and says whether it says how many.
-pub(crate) fn add_zeros(line: &[u8], text: &mut [u8], fields: &mut Fields) -> bool {
-    if !read_numbers(line, ZEROS, fields) {
-        return false;
+    pub fn bytes(&self) -> &[u8]
+        ensures { result.now ≡ self.now }
+    {
+        &self.bytes[..self.length]
     }
-    let mut at = fields[TEXT_LENGTH] as usize;
-    let mut left = fields[ZEROS + 1];
-    while 0 < left {
-        at = put(at, b'0', text);
-        left -= 1;
+
+    pub(crate) fn add(&mut self, more: &[u8])
+        ensures { self.new ≡ take SIZE (self.old ++ more.now) }
+    {
+        let count = more.len().min(SIZE - self.length);
+        self.bytes[self.length..self.length + count].copy_from_slice(&more[..count]);
+        self.length += count;
     }
-    fields[TEXT_LENGTH] = at as u64;
-    true
+
+    pub(crate) fn add_zeros(&mut self, most: u64)
+        ensures { self.new ≡ take SIZE (self.old ++ replicate most 48) }
+    {
+        let count = (most as usize).min(SIZE - self.length);
+        self.bytes[self.length..self.length + count].fill(b'0');
+        self.length += count;
+    }
 }

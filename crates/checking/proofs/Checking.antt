@@ -1,6 +1,6 @@
 -- The answer at entry from its parts: the program's check, the entry's tests.
 use mathlib.Core.Path.{◌≡◌, refl, sym, ap, ap₂, ◌∙◌}
-use mathlib.Core.Bool.{Bool, true, false}
+use mathlib.Core.Bool.{Bool, true, false, not}
 use mathlib.Core.List.{List}
 use Rattle.rules.specs.declared.Instruction.{Instruction}
 use Rattle.rules.specs.declared.Answer.TheVariants as A
@@ -13,20 +13,20 @@ use Rattle.rules.specs.Answers.{Meaning, meaning}
 use Rattle.rules.specs.Entry.{GuardedSnapshot, plain_entry, marks_entry, guarded_entry, all}
 use Rattle.rules.specs.Calls.{plain_call, guarded_call}
 use Rattle.rules.proofs.Laws.BoolLaws.{and-with-true}
-use Rattle.program.specs.declared.binary_program.Checked.{Checked}
 use Rattle.program.specs.WordLoads.{checked_of, CheckMeaning, accepted, refused_with, check_meaning}
 use Rattle.checking.specs.ModeCalls.{mode_entry, mode_call}
+use Rattle.program.specs.Checked.{Checked}
 
 -- The entry's tests
 
 -- `fits` is the test of the state alone
 module _ (g : GuardedSnapshot) (fits : Bool) (e : fits ≡ plain_entry g.plain) where
-  pub plainly-unfit : (guarded : Bool) → fits ≡ false → false ≡ mode_entry guarded g
+  pub unfit : (guarded : Bool) → fits ≡ false → fits ≡ mode_entry guarded g
   unfolding mode_entry guarded_entry all
-  plainly-unfit true h = rw (sym e, h)
-  plainly-unfit false h = sym h ∙ e
+  unfit true h = rw (sym e, h)
+  unfit false h = e
 
-  pub plainly-fit : (guarded : Bool) → guarded ≡ false → fits ≡ true → true ≡ mode_entry guarded g
+  pub plainly-fit : (guarded : Bool) → guarded ≡ false → fits ≡ true → not guarded ≡ mode_entry guarded g
   unfolding mode_entry
   plainly-fit guarded f h = rw f (sym h ∙ e)
 

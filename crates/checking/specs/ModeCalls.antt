@@ -5,6 +5,8 @@ use Rattle.rules.specs.Results.{Result}
 use Rattle.rules.specs.Entry.{Snapshot, GuardedSnapshot, plain_entry, guarded_entry}
 use Rattle.rules.specs.Calls.{Called, plain_call, guarded_call}
 use Rattle.effects.specs.declared.Mode.{Mode}
+use Rattle.interpreter.specs.Runs.{handed}
+use Rattle.checking.specs.declared.HandedIn.{HandedIn}
 
 unfoldable pub mode_entry : Bool → GuardedSnapshot → Bool
 mode_entry true g = guarded_entry g
@@ -21,3 +23,7 @@ mode_call false program budget g = call_beside g (plain_call program budget g.pl
 -- a plain call is handed no marks
 abbrev pub PlainHasNoMarks : Mode → List ℕ → Type 0
 PlainHasNoMarks mode ts = mode.guarded ≡ false → (ts ≡ []) × (mode.extras.registers ≡ 0)
+
+-- what is handed in, to be read
+abbrev pub handed_in : HandedIn → GuardedSnapshot
+handed_in h = handed h.mode h.machine h.addresses.now h.numbers.now h.moments.now h.marks.now h.tape.now h.output.now

@@ -1,7 +1,7 @@
 // The clock: how many steps a run may make, and what it answers after them.
 //
 // Internal, for the crates above, and for any arguments: `limit_of`, `end_answer`.
-#![tactic(auto)]
+#![tactic(auto, using(std::proofs::lemmas::Bool::Decides::nat_tests), unfolding(rules::specs::Numbers::clock_end))]
 
 ghost use Rattle.std.specs.Prelude.{◌≡◌};
 ghost use Rattle.clock.specs.Clock.{left_of, limit_of, end_answer};
@@ -15,18 +15,14 @@ pub const CLOCK_END: u64 = 1_000_000_000_000;
 fn left(clk: u64) -> u64
     ensures { result ≡ left_of clk }
 {
-    if clk < CLOCK_END {
-        return CLOCK_END - clk;
-    }
-    1
+    CLOCK_END.saturating_sub(clk).max(1)
 }
 
 // The most steps that a run makes: its budget, or what is left of the clock, whichever is less.
 pub fn limit_of(budget: u64, clk: u64) -> u64
     ensures { result ≡ limit_of budget clk }
 {
-    let most = left(clk);
-    if budget < most { budget } else { most }
+    budget.min(left(clk))
 }
 
 // The answer of a run that made as many steps as it may; clk is the clock after them.

@@ -3,6 +3,7 @@ pub mod Modes
 pub mod Effects
 pub mod Views
 pub mod Changes
+pub mod Tests
 pub mod Operations
 pub mod Carrying
 pub mod Deciding

@@ -1,5 +1,7 @@
 // ASSERT, RC and CJMP.
-ghost use Rattle.std.specs.Prelude.{List, ℕ, ◌+◌, ◌≤◌, leb, eqb, length, get_or};
+#![tactic(auto, unfolding(crate::specs::Changes::check, crate::specs::Changes::sink_where, crate::specs::Changes::on_result, rules::specs::Numbers::small_end))]
+
+ghost use Rattle.std.specs.Prelude.{List, ℕ, leb, eqb};
 ghost use Rattle.rules.specs.declared.Refusal.TheVariants.{AssertFailed, RangeCheckFailed};
 ghost use Rattle.rules.specs.Numbers.{small_end};
 ghost use Rattle.rules.specs.Results.{pass};
@@ -32,9 +34,8 @@ pub fn check_range(a: u64, next: u64) -> Effect
 
 // CJMP. A marked op1 stops it after op0's test. The next pc is read only where it goes on there, so that this is a branch, which can be
 // predicted: chosen without one, all that follows would wait for op0.
-pub fn jump_where(rows: &[u16], row: Row, a: u64, target: u64, mark: bool) -> Effect
-    requires { row.at + 8 ≤ length rows.now }
-    ensures { (l : List ℕ) → Means l result (λ t. jumps_where a (pass target) mark (get_or rows.now (row.at + 5) 0)) }
+pub fn jump_where(row: &Row, a: u64, target: u64, mark: bool) -> Effect
+    ensures { (l : List ℕ) → Means l result (λ t. jumps_where a (pass target) mark row.now.next) }
 {
     if 1 < a {
         return Effect::refuse(Refusal::NotSmall);
@@ -45,5 +46,5 @@ pub fn jump_where(rows: &[u16], row: Row, a: u64, target: u64, mark: bool) -> Ef
     if a == 1 {
         return Effect::jump(target);
     }
-    Effect::jump(row.next(rows))
+    Effect::jump(row.next())
 }

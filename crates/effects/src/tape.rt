@@ -1,27 +1,21 @@
 // TLOAD, TSTORE and SCCALL.
+#![tactic(auto, unfolding(crate::specs::Changes::check, crate::specs::Changes::sink_where, rules::specs::Numbers::word_end, rules::specs::Numbers::p, rules::specs::Numbers::stack_end, rules::specs::Numbers::heap_end))]
+
 ghost use Rattle.std.specs.Prelude.{◌≡◌, true, List, ℕ, ◌+◌, ◌≤◌, ◌<◌, leb, eqb, length, take};
 ghost use Rattle.rules.specs.declared.Refusal.TheVariants.{NoCapacity};
 ghost use Rattle.rules.specs.Numbers.{word_end};
 ghost use Rattle.rules.specs.Step.{span_fits};
 ghost use Rattle.rules.specs.Entry.{every};
-ghost use Rattle.hardware.specs.Buffers.{Rising};
+ghost use Rattle.effects.specs.Views.{used_addresses};
 ghost use Rattle.effects.specs.Effects.{StoreTape, CallContract, Means};
 ghost use Rattle.effects.specs.Changes.{check, sink_where, tape_from, tape_count};
 ghost use Rattle.effects.specs.Operations.{tests_of, has_capacity, loads_part, on_tape_of, loads_tape, span_among, on_span, part_mark, more};
 
-use crate::memory::Tested;
-use crate::{Effect, marks, memory};
-use hardware::cells;
-use hardware::cells::Span;
+use crate::seen::Seen;
+use crate::{Effect, memory};
+use hardware::addresses::Addresses;
 use hardware::regions::Region;
 use rules::Refusal;
-
-// Where a span's first cell is, or its refusal.
-#[derive(Clone, Copy)]
-pub(crate) enum SpanFound {
-    At(usize),
-    Refused(Refusal),
-}
 
 // Do n numbers from a start on reach 2^64?
 fn reaches_word_end(start: u64, n: u64) -> bool
@@ -45,97 +39,59 @@ fn span_fits(start: u64, n: u64) -> bool
     }
 }
 
-// The cells of a span: that it fits is tested before that they are present.
-fn find_cells(start: u64, n: u64, count: usize, addresses: &[u64]) -> SpanFound
-    requires { Rising count addresses.now }
-    ensures { result ≡ span_among (take count addresses.now) start n }
+// Where a span's first cell is, or its refusal: that it fits is tested before that its cells are present.
+fn find_cells(used: Addresses, start: u64, n: u64) -> Result<usize, Refusal>
+    ensures { result ≡ span_among used.entry.used.now start n }
 {
     if !span_fits(start, n) {
-        return SpanFound::Refused(Refusal::SpanPastRegion);
+        return Err(Refusal::SpanPastRegion);
     }
     if Region::PROPHET_END <= start {
-        return SpanFound::Refused(Refusal::CellAbsent);
+        return Err(Refusal::CellAbsent);
     }
-    match cells::find_span(count, start, n, addresses) {
-        Span::At(at) => SpanFound::At(at),
-        Span::Absent => SpanFound::Refused(Refusal::CellAbsent),
-    }
+    used.find_span(start, n).ok_or(Refusal::CellAbsent)
 }
 
 // TSTORE: n cells from a start on go to tape and output.
-pub fn store_tape(
-    guarded: bool,
-    start: u64,
-    n: u64,
-    next: u64,
-    count: usize,
-    used: usize,
-    shown: usize,
-    addresses: &[u64],
-    marks: &[u64],
-    tape: &[u64],
-    output: &[u64],
-) -> Effect
-    requires rising { Rising count addresses.now }
-    requires marks_len { guarded ≡ true → length marks.now ≡ length addresses.now }
-    requires used_in_bounds { used ≤ length tape.now }
-    requires shown_in_bounds { shown ≤ length output.now }
+pub fn store_tape(seen: &Seen, start: u64, n: u64, next: u64) -> Effect
     ensures { (l : List ℕ)
-        → Means l result (λ t. on_span (span_among (take count addresses.now) start n)
-        (λ at. sink_where (part_mark guarded marks.now at n)
-        (check (more used n tape.now) NoCapacity
-        (check (more shown n output.now) NoCapacity (StoreTape at n next))))) }
+        → Means l result (λ t. on_span (span_among (used_addresses seen.now) start n)
+        (λ at. sink_where (part_mark seen.now.cells.guarded seen.now.cells.marks.now at n)
+        (check (more seen.now.tape.count n seen.now.tape.buffer.now) NoCapacity
+        (check (more seen.now.output.count n seen.now.output.buffer.now) NoCapacity (StoreTape at n next))))) }
 {
-    match find_cells(start, n, count, addresses) {
-        SpanFound::Refused(f) => Effect::refuse(f),
-        SpanFound::At(at) => {
-            let length = n as usize;
-            if marks::is_part_marked(guarded, at, length, marks) {
-                return Effect::sink();
-            }
-            if tape.len() - used < length {
-                return Effect::refuse(Refusal::NoCapacity);
-            }
-            if output.len() - shown < length {
-                return Effect::refuse(Refusal::NoCapacity);
-            }
-            Effect::store_tape(at, length, next)
-        }
+    let at = match find_cells(seen.cells.used(), start, n) {
+        Ok(at) => at,
+        Err(f) => return Effect::refuse(f),
+    };
+    let length = n as usize;
+    if seen.cells.any_marked(at, length) {
+        return Effect::sink();
     }
+    if !seen.tape.has_room(length) || !seen.output.has_room(length) {
+        return Effect::refuse(Refusal::NoCapacity);
+    }
+    Effect::store_tape(at, length, next)
 }
 
 // SCCALL: the four cells from a start on name the callee; it delegates where op1 is 1.
-pub fn call_contract(
-    guarded: bool,
-    start: u64,
-    b: u64,
-    next: u64,
-    count: usize,
-    used: usize,
-    addresses: &[u64],
-    marks: &[u64],
-    tape: &[u64],
-) -> Effect
-    requires rising { Rising count addresses.now }
-    requires marks_len { guarded ≡ true → length marks.now ≡ length addresses.now }
-    requires used_in_bounds { used ≤ length tape.now }
+pub fn call_contract(seen: &Seen, start: u64, b: u64, next: u64) -> Effect
     ensures { (l : List ℕ)
-        → Means l result (λ t. on_span (span_among (take count addresses.now) start 4)
-        (λ at. sink_where (part_mark guarded marks.now at 4)
-        (check (more used 12 tape.now) NoCapacity (CallContract at (eqb b 1) next)))) }
+        → Means l result (λ t. on_span (span_among (used_addresses seen.now) start 4)
+        (λ at. sink_where (part_mark seen.now.cells.guarded seen.now.cells.marks.now at 4)
+        (check (more seen.now.tape.count 12 seen.now.tape.buffer.now) NoCapacity (CallContract at (eqb b 1) next)))) }
 {
-    match find_cells(start, 4, count, addresses) {
-        SpanFound::Refused(f) => Effect::refuse(f),
-        SpanFound::At(at) => {
-            if marks::is_part_marked(guarded, at, 4, marks) {
-                return Effect::sink();
-            }
-            if tape.len() - used < 12 {
-                return Effect::refuse(Refusal::NoCapacity);
-            }
-            Effect::call_contract(at, b == 1, next)
-        }
+    let at = match find_cells(seen.cells.used(), start, 4) {
+        Ok(at) => at,
+        Err(f) => return Effect::refuse(f),
+    };
+    if seen.cells.any_marked(at, 4) {
+        return Effect::sink();
     }
+    if !seen.tape.has_room(12) {
+        return Effect::refuse(Refusal::NoCapacity);
+    }
+    Effect::call_contract(at, b == 1, next)
 }
 
 // Does the tape, of which `used` values are written, have what TLOAD asks for?
@@ -175,94 +131,61 @@ fn tape_count(a: u64, b: u64) -> usize
 fn bound_of(values: &[u64]) -> u64
     ensures { every (λ v. leb v result) values.now ≡ true }
 {
-    let mut bits = 0;
-    let mut i = 0;
-    while i < values.len() {
-        bits |= values[i];
-        i += 1;
-    }
-    bits
+    values.iter().fold(0, |bits, v| bits | v)
 }
 
 // The tests of a store of values, cell by cell.
-fn test_each(start: u64, values: &[u64]) -> Tested
+fn test_each(start: u64, values: &[u64]) -> Result<(), Refusal>
     requires { start + length values.now < word_end }
     ensures { result ≡ tests_of start values.now }
 {
-    let mut i = 0;
-    while i < values.len() {
-        if let Tested::Refused(f) = memory::test_store(start + i as u64, values[i]) {
-            return Tested::Refused(f);
-        }
-        i += 1;
+    for (i, v) in values.iter().enumerate() {
+        memory::test_store(start + i as u64, *v)?;
     }
-    Tested::Passes
+    Ok(())
 }
 
 // The same. Where all cells lie in stack and heap, one number mostly tells that all pass.
-fn test_values(start: u64, values: &[u64]) -> Tested
+fn test_values(start: u64, values: &[u64]) -> Result<(), Refusal>
     requires { start + length values.now < word_end }
     ensures { result ≡ tests_of start values.now }
 {
-    if start + values.len() as u64 <= Region::HEAP_END {
-        if memory::is_storable(bound_of(values)) {
-            return Tested::Passes;
-        }
+    let end = start + values.len() as u64;
+    if end <= Region::HEAP_END && memory::is_storable(bound_of(values)) {
+        return Ok(());
     }
     test_each(start, values)
 }
 
 // n values of the tape from a place on go to the cells from an address on.
-fn load_part(
-    from: usize,
-    n: usize,
-    address: u64,
-    next: u64,
-    count: usize,
-    addresses: &[u64],
-    tape: &[u64],
-) -> Effect
-    requires rising { Rising count addresses.now }
-    requires n_in_bounds { from + n ≤ length tape.now }
+fn load_part(seen: &Seen, from: usize, n: usize, address: u64, next: u64) -> Effect
+    requires { from + n ≤ length seen.now.tape.buffer.now }
     ensures { (l : List ℕ)
-        → Means l result (λ t. loads_part tape.now from n address (has_capacity addresses.now count address n) next) }
+        → Means l result (λ t. loads_part seen.now.tape.buffer.now from n address
+        (has_capacity seen.now.cells.addresses.now seen.now.cells.count address n) next) }
 {
     if reaches_word_end(address, n as u64) {
         return Effect::refuse(Refusal::StoreFault);
     }
     let end = from + n;
-    match test_values(address, &tape[from..end]) {
-        Tested::Refused(f) => Effect::refuse(f),
-        Tested::Passes => {
-            if cells::has_capacity(count, address, n, addresses) {
-                return Effect::load_tape(from, n, address, next);
-            }
-            Effect::refuse(Refusal::NoCapacity)
-        }
+    if let Err(f) = test_values(address, &seen.tape.buffer[from..end]) {
+        return Effect::refuse(f);
     }
+    if !seen.cells.has_capacity(address, n) {
+        return Effect::refuse(Refusal::NoCapacity);
+    }
+    Effect::load_tape(from, n, address, next)
 }
 
 // TLOAD.
-pub fn load_tape(
-    a: u64,
-    b: u64,
-    address: u64,
-    next: u64,
-    count: usize,
-    used: usize,
-    addresses: &[u64],
-    tape: &[u64],
-) -> Effect
-    requires rising { Rising count addresses.now }
-    requires used_in_bounds { used ≤ length tape.now }
+pub fn load_tape(seen: &Seen, a: u64, b: u64, address: u64, next: u64) -> Effect
     ensures { (l : List ℕ)
-        → Means l result (λ t. loads_tape a b tape.now used address
-        (has_capacity addresses.now count address (tape_count a b)) next) }
+        → Means l result (λ t. loads_tape a b seen.now.tape.buffer.now seen.now.tape.count address
+        (has_capacity seen.now.cells.addresses.now seen.now.cells.count address (tape_count a b)) next) }
 {
+    let used = seen.tape.count;
     if !is_on_tape(a, b, used) {
         return Effect::refuse(Refusal::TapeFault);
     }
-    let from = tape_from(a, b, used);
-    let n = tape_count(a, b);
-    load_part(from, n, address, next, count, addresses, tape)
+    load_part(seen, tape_from(a, b, used), tape_count(a, b), address, next)
 }

@@ -1,5 +1,6 @@
 -- What `number` computes of a word, byte by byte: whether some character is no digit, and the digits. What it finds of one byte is tested at
 -- all 256.
+use Rattle.std.specs.Prelude.{Option, Some, None}
 use mathlib.Core.Path.{◌≡◌, refl, sym, ap, ap₂, ◌∙◌, subst}
 use mathlib.Core.Bool.{Bool, true, false}
 use mathlib.Core.List.{List, [], ◌∷◌, ◌++◌}
@@ -9,8 +10,6 @@ use native.Mathlib.Nat.{div-add-mod'}
 use lib.Bits.{bit_and, bit_or, bit_xor, and_block, and_mask, and_zero_r}
 use lib.Dec.{T, eqb, eqb→eq, lit<}
 use borrow.Author.Tests.{eq-eqb, ne_eqb, eqb-true, eqb-false}
-use Rattle.rules.specs.declared.HexWord.{HexWord}
-use Rattle.rules.specs.declared.HexWord.TheVariants.{Word, NotHex}
 use Rattle.rules.specs.Numbers.{choose}
 use Rattle.rules.specs.Hexadecimal.{digit_of, on_digit, digits_of}
 use Rattle.rules.proofs.Laws.Computed.{at}
@@ -105,24 +104,24 @@ module _ (w : ℕ) (h : w < 2 ^ 64) where
       ∙ or-lanes (λ x. bit_and (digit x) high) (λ x. bit_and (other x) bit6) (tested (λ x. bit_and (digit x) high) tt) (tested (λ x. bit_and (other x) bit6) tt) 8 w
 
 -- one byte: tested at all 256
-same : HexWord → HexWord → Bool
-same (Word a) (Word b) = eqb a b
-same (Word a) NotHex = false
-same NotHex (Word b) = false
-same NotHex NotHex = true
+same : Option ℕ → Option ℕ → Bool
+same (Some a) (Some b) = eqb a b
+same (Some a) None = false
+same None (Some b) = false
+same None None = true
 
-same→eq : (a b : HexWord) → T (same a b) → a ≡ b
+same→eq : (a b : Option ℕ) → T (same a b) → a ≡ b
 unfolding same
-same→eq (Word a) (Word b) t = ap Word (eqb→eq a b t)
-same→eq (Word a) NotHex t = absurd t
-same→eq NotHex (Word b) t = absurd t
-same→eq NotHex NotHex t = refl
+same→eq (Some a) (Some b) t = ap Some (eqb→eq a b t)
+same→eq (Some a) None t = absurd t
+same→eq None (Some b) t = absurd t
+same→eq None None t = refl
 
-byte-is : (x : ℕ) → x < 256 → digit_of x ≡ choose (eqb (wrong x) 0) (Word (digit x % 16)) NotHex
+byte-is : (x : ℕ) → x < 256 → digit_of x ≡ choose (eqb (wrong x) 0) (Some (digit x % 16)) None
 unfolding same digit_of
 byte-is x h =
-    same→eq (digit_of x) (choose (eqb (wrong x) 0) (Word (digit x % 16)) NotHex)
-    (at (λ (k : ℕ). same (digit_of k) (choose (eqb (wrong k) 0) (Word (digit k % 16)) NotHex)) 256 tt x h)
+    same→eq (digit_of x) (choose (eqb (wrong x) 0) (Some (digit x % 16)) None)
+    (at (λ (k : ℕ). same (digit_of k) (choose (eqb (wrong k) 0) (Some (digit k % 16)) None)) 256 tt x h)
 
 imp : Bool → Bool → Bool
 imp true b = b
@@ -163,35 +162,35 @@ eight-chars w =
     (ap (λ (k : ℕ). byte 7 w ∷ byte 6 w ∷ byte 5 w ∷ byte 4 w ∷ byte 3 w ∷ byte 2 w ∷ byte 1 w ∷ k % 256 ∷ []) e₀)
 
 -- one more character at the end
-abbrev on_digits : HexWord → HexWord → HexWord
-on_digits m d = on_digit m (λ k. on_digit d (λ v. Word (k * 16 + v)))
+abbrev on_digits : Option ℕ → Option ℕ → Option ℕ
+on_digits m d = on_digit m (λ k. on_digit d (λ v. Some (k * 16 + v)))
 
-join : (l b p d : ℕ) → on_digits (choose (eqb l 0) (Word p) NotHex) (choose (eqb b 0) (Word d) NotHex) ≡ choose (eqb (l * 256 + b) 0) (Word (p * 16 + d)) NotHex
+join : (l b p d : ℕ) → on_digits (choose (eqb l 0) (Some p) None) (choose (eqb b 0) (Some d) None) ≡ choose (eqb (l * 256 + b) 0) (Some (p * 16 + d)) None
 join l b p d = go (eqb l 0) (eqb b 0) refl refl
   where
-    go : (s t : Bool) → eqb l 0 ≡ s → eqb b 0 ≡ t → on_digits (choose s (Word p) NotHex) (choose t (Word d) NotHex) ≡ choose (eqb (l * 256 + b) 0) (Word (p * 16 + d)) NotHex
+    go : (s t : Bool) → eqb l 0 ≡ s → eqb b 0 ≡ t → on_digits (choose s (Some p) None) (choose t (Some d) None) ≡ choose (eqb (l * 256 + b) 0) (Some (p * 16 + d)) None
     go true true e f = rw (eq-eqb (l * 256 + b) 0 (omega (arith, eqb-true)))
     go true false e f = rw (ne_eqb (l * 256 + b) 0 (λ z. eqb-false b 0 f (omega arith)))
     go false true e f = rw (ne_eqb (l * 256 + b) 0 (λ z. eqb-false l 0 e (omega arith)))
     go false false e f = rw (ne_eqb (l * 256 + b) 0 (λ z. eqb-false l 0 e (omega arith)))
 
-read-lanes : (n w : ℕ) → digits_of 0 (chars n w) ≡ choose (eqb (lanes wrong n w) 0) (Word (pack 16 (digits n w))) NotHex
+read-lanes : (n w : ℕ) → digits_of 0 (chars n w) ≡ choose (eqb (lanes wrong n w) 0) (Some (pack 16 (digits n w))) None
 unfolding digits_of chars lanes digits pack
 read-lanes zero w = refl
 read-lanes (suc n) w =
     digits-snoc (chars n (w / 256)) 0 (w % 256)
-    ∙ ap₂ (λ (a b : HexWord). on_digits a b) (read-lanes n (w / 256)) (byte-is (w % 256) (omega arith))
+    ∙ ap₂ (λ (a b : Option ℕ). on_digits a b) (read-lanes n (w / 256)) (byte-is (w % 256) (omega arith))
     ∙ join (lanes wrong n (w / 256)) (wrong (w % 256)) (pack 16 (digits n (w / 256))) (digit (w % 256) % 16)
 
 -- what the function's two answers rest on
 module _ (w : ℕ) (h : w < 2 ^ 64) where
-  read : eight_digits w ≡ choose (eqb (lanes wrong 8 w) 0) (Word (pack 16 (digits 8 w))) NotHex
+  read : eight_digits w ≡ choose (eqb (lanes wrong 8 w) 0) (Some (pack 16 (digits 8 w))) None
   read = ap (digits_of 0) (sym (eight-chars w)) ∙ read-lanes 8 w
 
-  pub no_number : (wrong-of w ≡ 0 → ⊥) → eight_digits w ≡ NotHex
+  pub no_number : (wrong-of w ≡ 0 → ⊥) → eight_digits w ≡ None
   no_number f = read ∙ rw (ne_eqb (lanes wrong 8 w) 0 (λ z. f (wrong-lanes w h ∙ z)))
 
-  pub a-number : wrong-of w ≡ 0 → eight_digits w ≡ Word (pack 16 (digits 8 w))
+  pub a-number : wrong-of w ≡ 0 → eight_digits w ≡ Some (pack 16 (digits 8 w))
   a-number e = read ∙ rw (eq-eqb (lanes wrong 8 w) 0 (sym (wrong-lanes w h) ∙ e))
 
   pub its-digits : wrong-of w ≡ 0 → digits_in w ≡ pack 256 (digits 8 w)

@@ -5,4 +5,3 @@ pub mod Masks
 pub mod Bytewise
 pub mod Squeeze
 pub mod Together
-pub mod Packing

@@ -3,9 +3,10 @@
 // Internal, for the crates above, and for any arguments: `accepts`, and `accepts_marks` for what only a guarded run has.
 #![tactic(auto)]
 
-ghost use Rattle.std.specs.Prelude.{◌≡◌, not, ◌||◌, List, map, ℕ, ltb, leb, eqb, take};
+ghost use Rattle.std.specs.Prelude.{◌≡◌, not, ◌||◌, List, ℕ, ltb, leb, eqb, take};
+ghost use Rattle.std.specs.List.{list_all, zip};
 ghost use Rattle.rules.specs.Numbers.{p};
-ghost use Rattle.rules.specs.Entry.{every, rising_from, low_bits, marked_below, plain_entry, marks_entry};
+ghost use Rattle.rules.specs.Entry.{rising_from, low_bits, marked_below, plain_entry, marks_entry};
 ghost use Rattle.rules.specs.Handed.{snapshot, guarded_snapshot};
 
 use goldilocks::GoldilocksField;
@@ -25,71 +26,40 @@ const MARKS_END: u64 = 1024;
 fn used(count: usize, buffer: &[u64]) -> &[u64]
     ensures { result.now ≡ take count buffer.now }
 {
-    if buffer.len() < count {
-        return buffer;
-    }
-    &buffer[..count]
+    &buffer[..count.min(buffer.len())]
 }
 
 // Are the addresses strictly rising, within stack and heap?
 fn rising(addresses: &[u64]) -> bool
     ensures { result ≡ rising_from 0 addresses.now }
 {
-    let mut least: u64 = 0;
-    let mut i = 0;
-    while i < addresses.len() {
-        let address = addresses[i];
-        if address < least {
-            return false;
-        }
-        if Region::HEAP_END <= address {
-            return false;
-        }
-        least = address + 1;
-        i += 1;
-    }
-    true
+    addresses.is_sorted_by(|a, b| *a < *b)
+        && addresses.last().is_none_or(|last| *last < Region::HEAP_END)
 }
 
 // Is each number at most the limit?
 fn at_most(limit: u64, numbers: &[u64]) -> bool
-    ensures { result ≡ every (λ n. leb n limit) numbers.now }
+    ensures { result ≡ list_all (λ n. leb n limit) numbers.now }
 {
-    let mut i = 0;
-    while i < numbers.len() {
-        if limit < numbers[i] {
-            return false;
-        }
-        i += 1;
-    }
-    true
+    numbers.iter().all(|n| *n <= limit)
 }
 
 // A marked number has to be below p.
+#[tactic(auto, unfolding(rules::specs::Numbers::p))]
 fn mark_fits(number: u64, marked: bool) -> bool
     ensures { result ≡ (not marked || ltb number p) }
 {
-    if marked {
-        return number < GoldilocksField::ORDER;
-    }
-    true
+    !marked || number < GoldilocksField::ORDER
 }
 
 // Is each number with a mark of 1 below p?
 fn marked_below(numbers: &[u64], marks: &[u64]) -> bool
-    ensures { result ≡ marked_below (map (λ t. eqb t 1) marks.now) numbers.now }
+    ensures { result ≡ list_all (λ (q : ℕ × ℕ). not (eqb q.1 1) || ltb q.0 p) (zip numbers.now marks.now) }
 {
-    let mut i = 0;
-    while i < marks.len() {
-        if numbers.len() <= i {
-            return true;
-        }
-        if !mark_fits(numbers[i], marks[i] == 1) {
-            return false;
-        }
-        i += 1;
-    }
-    true
+    numbers
+        .iter()
+        .zip(marks)
+        .all(|(number, mark)| mark_fits(*number, *mark == 1))
 }
 
 // Is the number of each register whose bit is set below p?
@@ -97,13 +67,11 @@ fn registers_below(registers: [u64; 10], word: u64) -> bool
     ensures { result ≡ marked_below (low_bits 10 word) registers }
 {
     let mut bits = word;
-    let mut i = 0;
-    while i < 10 {
-        if !mark_fits(registers[i], bits % 2 == 1) {
+    for number in registers {
+        if !mark_fits(number, bits % 2 == 1) {
             return false;
         }
-        bits = bits / 2;
-        i += 1;
+        bits /= 2;
     }
     true
 }
@@ -121,40 +89,19 @@ pub fn accepts(
         ≡ plain_entry (snapshot machine addresses.now numbers.now moments.now
         tape.now output.now) }
 {
-    if clock::CLOCK_END <= machine.clk {
-        return false;
-    }
-    if addresses.len() < machine.cell_count {
-        return false;
-    }
-    if tape.len() < machine.tape_count {
-        return false;
-    }
-    if output.len() < machine.output_count {
-        return false;
-    }
-    if numbers.len() != addresses.len() {
-        return false;
-    }
-    if moments.len() != addresses.len() {
-        return false;
-    }
-    if CELL_LIMIT < addresses.len() {
-        return false;
-    }
-    if VALUE_LIMIT < tape.len() {
-        return false;
-    }
-    if VALUE_LIMIT < output.len() {
-        return false;
-    }
-    if !rising(used(machine.cell_count, addresses)) {
-        return false;
-    }
-    if !at_most(Cell::LARGEST, used(machine.cell_count, numbers)) {
-        return false;
-    }
-    at_most(machine.clk, used(machine.cell_count, moments))
+    let sizes_fit = machine.clk < clock::CLOCK_END
+        && machine.cell_count <= addresses.len()
+        && machine.tape_count <= tape.len()
+        && machine.output_count <= output.len()
+        && numbers.len() == addresses.len()
+        && moments.len() == addresses.len()
+        && addresses.len() <= CELL_LIMIT
+        && tape.len() <= VALUE_LIMIT
+        && output.len() <= VALUE_LIMIT;
+    sizes_fit
+        && rising(used(machine.cell_count, addresses))
+        && at_most(Cell::LARGEST, used(machine.cell_count, numbers))
+        && at_most(machine.clk, used(machine.cell_count, moments))
 }
 
 // Do the marks pass? Moments, tape and output do not matter.
@@ -169,19 +116,10 @@ pub fn accepts_marks(
         ≡ marks_entry (guarded_snapshot machine extras addresses.now numbers.now moments marks.now
         tape output) }
 {
-    if marks.len() != addresses.len() {
-        return false;
-    }
-    if MARKS_END <= extras.registers {
-        return false;
-    }
-    let registers = machine.registers;
-    if !registers_below(registers, extras.registers) {
-        return false;
-    }
     let used_marks = used(machine.cell_count, marks);
-    if !marked_below(used(machine.cell_count, numbers), used_marks) {
-        return false;
-    }
-    at_most(1, used_marks)
+    marks.len() == addresses.len()
+        && at_most(1, used_marks)
+        && extras.registers < MARKS_END
+        && registers_below(machine.registers, extras.registers)
+        && marked_below(used(machine.cell_count, numbers), used_marks)
 }

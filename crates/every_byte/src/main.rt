@@ -5,8 +5,6 @@
 
 ghost use Rattle.std.specs.Prelude.{◌<◌};
 
-use program::binary_program::Checked;
-use rules::HexWord;
 use std::io;
 use std::io::Write;
 
@@ -42,30 +40,23 @@ fn try_bytes<W: Write>(word: [u8; DIGITS], place: usize, out: &mut W) -> io::Res
 fn try_word<W: Write>(word: [u8; DIGITS], out: &mut W) -> io::Result<()> {
     let mut budget_text = BUDGET_TEXT;
     let mut frame_text = FRAME_TEXT;
-    for i in 0..DIGITS {
-        budget_text[i] = word[i];
-        frame_text[DIGITS + i] = word[i];
-    }
-    let in_budget = is_program(program_text::check_budget_text(&budget_text));
-    let in_frame = is_program(program_text::check_text(&frame_text));
+    budget_text[..DIGITS].copy_from_slice(&word);
+    frame_text[DIGITS..2 * DIGITS].copy_from_slice(&word);
+    let in_budget = program_text::check_budget_text(&budget_text).is_ok();
+    let in_frame = program_text::check_text(&frame_text).is_ok();
     show(hexadecimal::word(&word, 0), in_budget, in_frame, out)
 }
 
-fn is_program(checked: Checked) -> bool {
-    match checked {
-        Checked::Frames(_) => true,
-        Checked::Refused(_) => false,
-    }
-}
-
-fn show<W: Write>(read: HexWord, in_budget: bool, in_frame: bool, out: &mut W) -> io::Result<()> {
-    match read {
-        HexWord::Word(v) => show_word(v, out)?,
-        HexWord::NotHex => {
-            if !in_budget && !in_frame {
-                return Ok(());
-            }
-        }
+fn show<W: Write>(
+    read: Option<u64>,
+    in_budget: bool,
+    in_frame: bool,
+    out: &mut W,
+) -> io::Result<()> {
+    if let Some(v) = read {
+        write!(out, "{v:016x}")?;
+    } else if !in_budget && !in_frame {
+        return Ok(());
     }
     if in_budget {
         out.write_all(b" budget")?;
@@ -74,10 +65,4 @@ fn show<W: Write>(read: HexWord, in_budget: bool, in_frame: bool, out: &mut W) -
         out.write_all(b" frame")?;
     }
     out.write_all(b"\n")
-}
-
-fn show_word<W: Write>(v: u64, out: &mut W) -> io::Result<()> {
-    let mut digits = [0u8; DIGITS];
-    hexadecimal::put_16(0, v, &mut digits);
-    out.write_all(&digits)
 }

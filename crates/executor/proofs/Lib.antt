@@ -1,4 +1,3 @@
--- From the core's calls by mode to the public ones; demand 3 of the guarded ones; `solve`.
-pub mod ByMode
+-- Demand 3 of the guarded ones; `solve`.
 pub mod GuardedFunctionsHold
 pub mod Solving

@@ -10,25 +10,21 @@
 //   leaves, which is e3 after k steps;
 // - 18 comes after k steps exactly where the step that follows them reaches a sink with a marked number.
 // It says nothing of time, nor of which places of memory are touched; the number of steps is public.
+//
+// That they stand beside those of `plain`, and why, is said there.
 ghost use Rattle.std.specs.Prelude.{◌≡◌, true};
 ghost use Rattle.rules.specs.Text.{load_budget_text};
 ghost use Rattle.rules.specs.Answers.{meaning};
 ghost use Rattle.rules.specs.Calls.{job_program, guarded_call, guarded_words, guarded_text, guarded_budget_text};
 ghost use Rattle.rules.specs.Handed.{guarded_snapshot, guarded_called};
 
+use checking::HandedIn;
+use checking::programs::{BudgetText, Text, Words};
 use effects::Mode;
 use rules::{Answer, Machine, Marks, Ran};
 
-fn mode(extras: Marks) -> Mode
-    ensures { result ≡ record { guarded = true; extras = extras } }
-{
-    Mode {
-        guarded: true,
-        extras,
-    }
-}
-
 // Runs a program of bare words.
+#[tactic(auto, unfolding(checking::specs::ModeCalls::mode_call, rules::specs::Calls::guarded_words))]
 pub fn run_words(
     words: &[u64],
     budget: u64,
@@ -47,10 +43,12 @@ pub fn run_words(
         (guarded_snapshot machine extras addresses.old numbers.old moments.old marks.old
         tape.old output.old) }
 {
-    calling::runs::run_words(
-        mode(extras),
-        words,
-        budget,
+    calling::runs::run(
+        Mode {
+            guarded: true,
+            extras,
+        },
+        Words { words, budget },
         machine,
         addresses,
         numbers,
@@ -85,6 +83,7 @@ pub fn step_words(
 }
 
 // Runs a program as text.
+#[tactic(auto, unfolding(checking::specs::ModeCalls::mode_call, rules::specs::Calls::guarded_text))]
 pub fn run_text(
     text: &[u8],
     budget: u64,
@@ -103,10 +102,12 @@ pub fn run_text(
         (guarded_snapshot machine extras addresses.old numbers.old moments.old marks.old
         tape.old output.old) }
 {
-    calling::runs::run_text(
-        mode(extras),
-        text,
-        budget,
+    calling::runs::run(
+        Mode {
+            guarded: true,
+            extras,
+        },
+        Text { text, budget },
         machine,
         addresses,
         numbers,
@@ -131,13 +132,15 @@ pub fn run_budget_text(
 ) -> Ran
     ensures { guarded_called result addresses.new numbers.new moments.new marks.new
         tape.new output.new
-        ≡ guarded_budget_text text.now
-        (guarded_snapshot machine extras addresses.old numbers.old moments.old marks.old
+        ≡ guarded_budget_text text.now (guarded_snapshot machine extras addresses.old numbers.old moments.old marks.old
         tape.old output.old) }
 {
-    calling::runs::run_budget_text(
-        mode(extras),
-        text,
+    calling::runs::run(
+        Mode {
+            guarded: true,
+            extras,
+        },
+        BudgetText { text },
         machine,
         addresses,
         numbers,
@@ -149,6 +152,7 @@ pub fn run_budget_text(
 }
 
 // What a run of a program of bare words is refused with at entry; else e3.
+#[tactic(auto, unfolding(checking::specs::ModeCalls::mode_call, rules::specs::Calls::guarded_words))]
 pub fn check_words(
     words: &[u64],
     machine: Machine,
@@ -166,20 +170,26 @@ pub fn check_words(
         tape.now output.now)
         ).answer }
 {
-    checking::check_words(
-        mode(extras),
-        words,
-        machine,
-        addresses,
-        numbers,
-        moments,
-        marks,
-        tape,
-        output,
+    checking::check(
+        Words { words, budget: 0 },
+        &HandedIn {
+            mode: Mode {
+                guarded: true,
+                extras,
+            },
+            machine,
+            addresses,
+            numbers,
+            moments,
+            marks,
+            tape,
+            output,
+        },
     )
 }
 
 // The same of a program as text.
+#[tactic(auto, unfolding(checking::specs::ModeCalls::mode_call, rules::specs::Calls::guarded_text))]
 pub fn check_text(
     text: &[u8],
     machine: Machine,
@@ -197,20 +207,26 @@ pub fn check_text(
         tape.now output.now)
         ).answer }
 {
-    checking::check_text(
-        mode(extras),
-        text,
-        machine,
-        addresses,
-        numbers,
-        moments,
-        marks,
-        tape,
-        output,
+    checking::check(
+        Text { text, budget: 0 },
+        &HandedIn {
+            mode: Mode {
+                guarded: true,
+                extras,
+            },
+            machine,
+            addresses,
+            numbers,
+            moments,
+            marks,
+            tape,
+            output,
+        },
     )
 }
 
 // The same of a program as text with a budget line, whatever its budget.
+#[tactic(auto, unfolding(checking::specs::ModeCalls::mode_call))]
 pub fn check_budget_text(
     text: &[u8],
     machine: Machine,
@@ -228,15 +244,20 @@ pub fn check_budget_text(
         tape.now output.now)
         ).answer }
 {
-    checking::check_budget_text(
-        mode(extras),
-        text,
-        machine,
-        addresses,
-        numbers,
-        moments,
-        marks,
-        tape,
-        output,
+    checking::check(
+        BudgetText { text },
+        &HandedIn {
+            mode: Mode {
+                guarded: true,
+                extras,
+            },
+            machine,
+            addresses,
+            numbers,
+            moments,
+            marks,
+            tape,
+            output,
+        },
     )
 }

@@ -10,7 +10,6 @@ ghost use Rattle.rules.specs.Solve.{solve_start, solve};
 ghost use Rattle.hexadecimal.specs.Writing.{Writes};
 
 use hardware::regions::Region;
-use hexadecimal::Put;
 use rules::Machine;
 
 // A buffer for the input of `solve`: one byte more than the longest text has, so that a longer one is seen.
@@ -34,7 +33,7 @@ fn start() -> Machine
 
 // The whole of `solve`: from its input, a budget line and frames, to the lines that it prints, which are written into the caller's
 // buffer; nothing is written where they do not fit.
-pub fn solve(input: &[u8], lines: &mut [u8]) -> Put
+pub fn solve(input: &[u8], lines: &mut [u8]) -> Option<usize>
     ensures { Writes (solve input.now) lines.old 0 result lines.new }
 {
     let mut addresses = [0u64; entry::CELL_LIMIT];
@@ -51,7 +50,5 @@ pub fn solve(input: &[u8], lines: &mut [u8]) -> Put
         &mut tape,
         &mut output,
     );
-    let answer = ran.answer;
-    let machine = ran.machine;
-    report::print(answer, ran.steps, machine, &output, lines)
+    report::print(ran.answer, ran.steps, ran.machine, &output, lines)
 }

@@ -1,26 +1,25 @@
 // The plain machine's public functions, on programs as bare words, as text, and as text with a budget line. Each takes any arguments,
 // checks them, and answers. They touch nothing but the buffers that they are lent; a call refused at entry leaves everything handed in.
 // The functions `check_..` make the entry's tests alone: they answer as a run with budget 0 does, and only read what is lent.
-ghost use Rattle.std.specs.Prelude.{◌≡◌, false};
+//
+// README.md names each of them and those of `guarded`, so both stay, one for each form of program; all that they do is done once, by
+// `calling::runs::run` and `checking::check`.
+ghost use Rattle.std.specs.Prelude.{◌≡◌};
 ghost use Rattle.rules.specs.Text.{load_budget_text};
 ghost use Rattle.rules.specs.Answers.{meaning};
 ghost use Rattle.rules.specs.Calls.{job_program, plain_call, plain_words, plain_text, plain_budget_text};
 ghost use Rattle.rules.specs.Handed.{snapshot, called, no_marks};
 
+use checking::HandedIn;
+use checking::programs::{BudgetText, Text, Words};
 use effects::Mode;
-use rules::{Answer, Machine, Marks, Ran};
+use rules::{Answer, Machine, Ran};
 
 // A plain run has no marks.
-fn mode() -> Mode
-    ensures { result ≡ record { guarded = false; extras = no_marks } }
-{
-    Mode {
-        guarded: false,
-        extras: Marks { registers: 0 },
-    }
-}
+const MODE: Mode = Mode::PLAIN;
 
 // Runs a program of bare words.
+#[tactic(auto, unfolding(checking::specs::ModeCalls::mode_call, rules::specs::Calls::plain_words))]
 pub fn run_words(
     words: &[u64],
     budget: u64,
@@ -37,16 +36,14 @@ pub fn run_words(
         tape.old output.old) }
     ensures extras_value { result.extras ≡ no_marks }
 {
-    let mut none = [0u64; 1];
-    calling::runs::run_words(
-        mode(),
-        words,
-        budget,
+    calling::runs::run(
+        MODE,
+        Words { words, budget },
         machine,
         addresses,
         numbers,
         moments,
-        &mut none[..0],
+        &mut [],
         tape,
         output,
     )
@@ -72,6 +69,7 @@ pub fn step_words(
 }
 
 // Runs a program as text.
+#[tactic(auto, unfolding(checking::specs::ModeCalls::mode_call, rules::specs::Calls::plain_text))]
 pub fn run_text(
     text: &[u8],
     budget: u64,
@@ -88,22 +86,21 @@ pub fn run_text(
         tape.old output.old) }
     ensures extras_value { result.extras ≡ no_marks }
 {
-    let mut none = [0u64; 1];
-    calling::runs::run_text(
-        mode(),
-        text,
-        budget,
+    calling::runs::run(
+        MODE,
+        Text { text, budget },
         machine,
         addresses,
         numbers,
         moments,
-        &mut none[..0],
+        &mut [],
         tape,
         output,
     )
 }
 
 // Runs a program as text with a budget line.
+#[tactic(auto, unfolding(checking::specs::ModeCalls::mode_call, rules::specs::Calls::plain_budget_text))]
 pub fn run_budget_text(
     text: &[u8],
     machine: Machine,
@@ -119,15 +116,14 @@ pub fn run_budget_text(
         tape.old output.old) }
     ensures extras_value { result.extras ≡ no_marks }
 {
-    let mut none = [0u64; 1];
-    calling::runs::run_budget_text(
-        mode(),
-        text,
+    calling::runs::run(
+        MODE,
+        BudgetText { text },
         machine,
         addresses,
         numbers,
         moments,
-        &mut none[..0],
+        &mut [],
         tape,
         output,
     )
@@ -148,21 +144,23 @@ pub fn check_words(
         (snapshot machine addresses.now numbers.now moments.now tape.now output.now)
         ).answer }
 {
-    let none = [0u64; 1];
-    checking::check_words(
-        mode(),
-        words,
-        machine,
-        addresses,
-        numbers,
-        moments,
-        &none[..0],
-        tape,
-        output,
+    checking::check(
+        Words { words, budget: 0 },
+        &HandedIn {
+            mode: MODE,
+            machine,
+            addresses,
+            numbers,
+            moments,
+            marks: &[],
+            tape,
+            output,
+        },
     )
 }
 
 // The same of a program as text.
+#[tactic(auto, unfolding(checking::specs::ModeCalls::mode_call, rules::specs::Calls::plain_text))]
 pub fn check_text(
     text: &[u8],
     machine: Machine,
@@ -177,21 +175,23 @@ pub fn check_text(
         (snapshot machine addresses.now numbers.now moments.now tape.now output.now)
         ).answer }
 {
-    let none = [0u64; 1];
-    checking::check_text(
-        mode(),
-        text,
-        machine,
-        addresses,
-        numbers,
-        moments,
-        &none[..0],
-        tape,
-        output,
+    checking::check(
+        Text { text, budget: 0 },
+        &HandedIn {
+            mode: MODE,
+            machine,
+            addresses,
+            numbers,
+            moments,
+            marks: &[],
+            tape,
+            output,
+        },
     )
 }
 
 // The same of a program as text with a budget line, whatever its budget.
+#[tactic(auto, unfolding(checking::specs::ModeCalls::mode_call))]
 pub fn check_budget_text(
     text: &[u8],
     machine: Machine,
@@ -206,16 +206,17 @@ pub fn check_budget_text(
         (snapshot machine addresses.now numbers.now moments.now tape.now output.now)
         ).answer }
 {
-    let none = [0u64; 1];
-    checking::check_budget_text(
-        mode(),
-        text,
-        machine,
-        addresses,
-        numbers,
-        moments,
-        &none[..0],
-        tape,
-        output,
+    checking::check(
+        BudgetText { text },
+        &HandedIn {
+            mode: MODE,
+            machine,
+            addresses,
+            numbers,
+            moments,
+            marks: &[],
+            tape,
+            output,
+        },
     )
 }

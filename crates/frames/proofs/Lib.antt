@@ -2,8 +2,5 @@
 pub mod Cases
 pub mod ByPlace
 pub mod ByOpcode
-pub mod ByWant
-pub mod ByKind
 pub mod Selectors
 pub mod Sets
-pub mod MemoryOpcodes

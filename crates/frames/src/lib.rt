@@ -6,4 +6,5 @@
 pub mod first_word;
 pub mod opcodes;
 pub mod operand_kinds;
+pub mod register_sets;
 pub mod wants;

@@ -19,26 +19,16 @@ pub struct GoldilocksField {
     pub value: u64,
 }
 
-// An element, or that a number is none.
-#[derive(Clone, Copy)]
-pub enum FieldElement {
-    Element(GoldilocksField),
-    NotInField,
-}
-
 impl GoldilocksField {
     // The prime p.
     pub const ORDER: u64 = 0xFFFF_FFFF_0000_0001;
 
     // The element of a number below p.
-    pub fn from_canonical_u64(n: u64) -> FieldElement
+    #[tactic(auto, unfolding(rules::specs::Numbers::p))]
+    pub fn from_canonical_u64(n: u64) -> Option<GoldilocksField>
         ensures { result ≡ element_where (is_element n) n }
     {
-        if n < GoldilocksField::ORDER {
-            FieldElement::Element(GoldilocksField { value: n })
-        } else {
-            FieldElement::NotInField
-        }
+        (n < GoldilocksField::ORDER).then_some(GoldilocksField { value: n })
     }
 
     pub(crate) fn add(self, other: GoldilocksField) -> GoldilocksField
@@ -78,37 +68,27 @@ impl GoldilocksField {
 }
 
 // The sum of two elements.
-pub fn add(a: u64, b: u64) -> FieldElement
+pub fn add(a: u64, b: u64) -> Option<GoldilocksField>
     ensures { result ≡ element_where (is_element a && is_element b) (field_add a b) }
 {
-    let FieldElement::Element(x) = GoldilocksField::from_canonical_u64(a) else {
-        return FieldElement::NotInField;
-    };
-    let FieldElement::Element(y) = GoldilocksField::from_canonical_u64(b) else {
-        return FieldElement::NotInField;
-    };
-    FieldElement::Element(x.add(y))
+    let x = GoldilocksField::from_canonical_u64(a)?;
+    let y = GoldilocksField::from_canonical_u64(b)?;
+    Some(x.add(y))
 }
 
 // The product of two elements.
-pub fn mul(a: u64, b: u64) -> FieldElement
+pub fn mul(a: u64, b: u64) -> Option<GoldilocksField>
     ensures { result ≡ element_where (is_element a && is_element b) (field_mul a b) }
 {
-    let FieldElement::Element(x) = GoldilocksField::from_canonical_u64(a) else {
-        return FieldElement::NotInField;
-    };
-    let FieldElement::Element(y) = GoldilocksField::from_canonical_u64(b) else {
-        return FieldElement::NotInField;
-    };
-    FieldElement::Element(x.mul(y))
+    let x = GoldilocksField::from_canonical_u64(a)?;
+    let y = GoldilocksField::from_canonical_u64(b)?;
+    Some(x.mul(y))
 }
 
 // The complement of an element.
-pub fn complement(a: u64) -> FieldElement
+pub fn complement(a: u64) -> Option<GoldilocksField>
     ensures { result ≡ element_where (is_element a) (field_complement a) }
 {
-    let FieldElement::Element(x) = GoldilocksField::from_canonical_u64(a) else {
-        return FieldElement::NotInField;
-    };
-    FieldElement::Element(x.complement())
+    let x = GoldilocksField::from_canonical_u64(a)?;
+    Some(x.complement())
 }

@@ -1,29 +1,28 @@
 -- Cells in buffers, in the words of the contracts: what is found, where a span stands, what has capacity, what is read and what is stored.
-use Prim.Native.Nat.{ℕ, zero, suc, ◌+◌, ◌-◌, ◌≤◌, ◌<◌}
+use Rattle.std.specs.Prelude.{Option, Some, None, Ok, Err, ◌&&◌}
+use Prim.Native.Nat.{ℕ, suc, ◌+◌, ◌≤◌, ◌<◌}
 use mathlib.Core.Path.{◌≡◌, refl, sym, ap, subst, ◌∙◌}
 use mathlib.Core.Bool.{Bool, true, false}
 use mathlib.Core.List.{List, [], ◌∷◌, ◌++◌}
 use native.Mathlib.Numerals.{add-one}
 use native.Mathlib.Omega.{arith}
-use lib.Dec.{leb, ltb, eqb}
+use lib.Dec.{eqb}
 use lib.ListN.{length, get_or, set, take, drop}
 use lib.Seq.{length-take-le, get_or-take, split_at, set_split}
-use borrow.Author.Tests.{leb-true, leb-false, le-leb, lt-leb}
-use mir.Val.{bool_byte}
 use Rattle.rules.specs.declared.Held.{Held}
 use Rattle.rules.specs.Numbers.{choose, bit}
 use Rattle.rules.specs.Memory.{absent, present, held, numbers_of, moments_of, held_of}
-use Rattle.rules.specs.Cells.{Cells, get, put, count, addresses, contents, zipped}
+use Rattle.rules.specs.Cells.{Cells, get, put, count, addresses, contents, zipped, mark_cells}
+use Rattle.rules.specs.Guarded.{cell_mark}
 use Rattle.rules.specs.Step.{overlay}
 use Rattle.rules.specs.Entry.{rising_from}
 use Rattle.rules.proofs.Laws.CellLaws.{length-addresses, addresses-zipped, contents-zipped}
 use Rattle.rules.proofs.Laws.HeldLaws.{numbers-held, moments-held, length-held, get_or-held, mapped, addresses-mapped, contents-mapped, count-mapped, put-mapped, zipped-mapped}
-use Rattle.hardware.specs.declared.cells.Found.TheVariants as Found
 use Rattle.hardware.specs.declared.cells.Cell.{Cell}
-use Rattle.hardware.specs.declared.cells.Span.TheVariants as Span
-use Rattle.hardware.specs.Buffers.{rank, last_at_most, has, found_of, has_all, span_of, missing, cells_of, mark_cells_of, cell_of, put_many, Rising, Ordered, Holding}
+use Rattle.hardware.specs.Buffers.{rank, has, found_of, has_all, cells_of, mark_cells_of, cell_of, put_many, Rising, Ordered, Holding}
 use Rattle.hardware.specs.Places.{insert_at, filled, consecutive, spliced}
-use Rattle.hardware.proofs.RankLaws.{rank-length, rank_mono, rank-next, rank-here, has-at, has-rank, has-none, last-other, last-rank, last_none, last-there, there-last, missing-ranks, missing-most}
+use Rattle.hardware.proofs.RankLaws.{rank-length, rank-next, has-rank}
+use Rattle.hardware.proofs.SearchLaws as search
 use Rattle.hardware.proofs.SpanLaws.{absent-get, present-get}
 use Rattle.hardware.proofs.SpliceLaws.{put_all, spliced-many}
 use Rattle.hardware.proofs.PlaceLaws.{insert-spliced, found_at, found-absent, found_below}
@@ -31,133 +30,33 @@ use Rattle.hardware.proofs.WriteLaws.{overlay-set, overlay-taken, length-put-in}
 
 -- Searches
 
-module _ (n : ℕ) (xs : List ℕ) (o : Rising n xs) (a i : ℕ) (e : i ≡ rank (take n xs) a) where
+-- among the used addresses of a buffer
+module _ (n : ℕ) (xs : List ℕ) (o : Rising n xs) (a i : ℕ) where
   used : length (take n xs) ≡ n
   used = length-take-le n xs o.within
 
-  pub rank-used : i ≤ n
-  rank-used = let k : length (take n xs) ≡ n = used in let h : rank (take n xs) a ≤ length (take n xs) = rank-length (take n xs) a in omega arith
+  -- a place that is found lies among the used ones, and one where an address would go not behind them
+  pub found_within : Ok i ≡ found_of (take n xs) a → i < n
+  found_within e = subst (λ (k : ℕ). i < k) used (found_below (take n xs) a i o.rises (sym e))
 
-  pub found-present : i < n → get_or xs i 0 ≡ a → Found.At i ≡ found_of (take n xs) a
-  found-present h g =
-      let k : length (take n xs) ≡ n = used in
-      rw (has-at (take n xs) a i (omega arith) (get_or-take n xs i 0 h ∙ g)) (ap Found.At e)
+  pub rank-used : i ≡ rank (take n xs) a → i ≤ n
+  rank-used e = omega (arith, used, rank-length (take n xs) a)
 
-  absent-found : (rank (take n xs) a < n → get_or (take n xs) (rank (take n xs) a) 0 ≡ a → ⊥) → Found.Absent i ≡ found_of (take n xs) a
-  absent-found f = rw (has-none (take n xs) a o.rises (λ h. f (subst (λ (k : ℕ). rank (take n xs) a < k) used h))) (ap Found.Absent e)
+  pub absent-within : Err i ≡ found_of (take n xs) a → i ≤ n
+  absent-within e = rank-used (sym (found-absent (take n xs) a i (sym e)).1)
 
-  pub found-other : i < n → (get_or xs i 0 ≡ a → ⊥) → Found.Absent i ≡ found_of (take n xs) a
-  found-other h f = absent-found (λ _ g. f (sym (get_or-take n xs i 0 h) ∙ ap (λ (k : ℕ). get_or (take n xs) k 0) e ∙ g))
+  module _ (e : i ≡ rank (take n xs) a) where
+    pub found-present : i < n → get_or xs i 0 ≡ a → Ok i ≡ found_of (take n xs) a
+    found-present h g = search.found-present (take n xs) o.rises a i e (omega (arith, used)) (get_or-take n xs i 0 h ∙ g)
 
-  pub found-end : n ≤ i → Found.Absent i ≡ found_of (take n xs) a
-  found-end h = absent-found (λ k _. omega arith)
+    pub found-other : i < n → (get_or xs i 0 ≡ a → ⊥) → Err i ≡ found_of (take n xs) a
+    found-other h f = search.found-other (take n xs) o.rises a i e (λ g. f (sym (get_or-take n xs i 0 h) ∙ g))
 
-  pub span_none : (m : ℕ) → m ≡ 0 → Span.At i ≡ span_of (take n xs) a m
-  span_none m z = rw z (ap Span.At e)
+    pub found-end : n ≤ i → Err i ≡ found_of (take n xs) a
+    found-end h = search.found-end (take n xs) o.rises a i e (omega (arith, used))
 
-  absent-span : (m : ℕ) → (has_all (take n xs) a m ≡ true → ⊥) → Span.Absent ≡ span_of (take n xs) a m
-  absent-span m f = go (has_all (take n xs) a m) refl
-    where
-      go : (t : Bool) → has_all (take n xs) a m ≡ t → Span.Absent ≡ choose t (Span.At (rank (take n xs) a)) Span.Absent
-      go true h = absurd (f h)
-      go false h = refl
-
-  -- where all of a span are there, its last is
-  last_of : (m : ℕ) → 0 < m → has_all (take n xs) a m ≡ true → (i + (m - 1) < n) × (get_or xs (i + (m - 1)) 0 ≡ a + (m - 1))
-  last_of m p h =
-      let s : m ≡ suc (m - 1) = omega arith in
-      let f = there-last (take n xs) a (m - 1) (i + (m - 1)) o.rises (omega arith) (subst (λ (m : ℕ). has_all (take n xs) a m ≡ true) s h) in
-      let k : i + (m - 1) < n = subst (λ (k : ℕ). i + (m - 1) < k) used f.0 in
-      (k, sym (get_or-take n xs (i + (m - 1)) 0 k) ∙ f.1)
-
-  pub span-ends : (m : ℕ) → has_all (take n xs) a m ≡ true → i + m ≤ n
-  span-ends zero h = let k : i ≤ n = rank-used in omega arith
-  span-ends (suc m) h = let k : i + (suc m - 1) < n = (last_of (suc m) (omega arith) h).0 in omega arith
-
-  pub span-short : (m : ℕ) → (m ≡ 0 → ⊥) → n - i < m → Span.Absent ≡ span_of (take n xs) a m
-  span-short m z l = absent-span m (λ h. let k : i + (m - 1) < n = (last_of m (omega arith) h).0 in omega arith)
-
-  pub span-other : (m : ℕ) → (m ≡ 0 → ⊥) → (get_or xs (i + (m - 1)) 0 ≡ a + (m - 1) → ⊥) → Span.Absent ≡ span_of (take n xs) a m
-  span-other m z f = absent-span m (λ h. f (last_of m (omega arith) h).1)
-
-  pub span-present : (m : ℕ) → (m ≡ 0 → ⊥) → m ≤ n - i → get_or xs (i + (m - 1)) 0 ≡ a + (m - 1) → Span.At i ≡ span_of (take n xs) a m
-  span-present m z l g =
-      let s : suc (m - 1) ≡ m = omega arith in
-      let k : i + (m - 1) < n = omega arith in
-      let u : length (take n xs) ≡ n = used in
-      rw (subst (λ (m : ℕ). has_all (take n xs) a m ≡ true) s (last-there (take n xs) a (m - 1) (i + (m - 1)) o.rises (omega arith) (omega arith) (get_or-take n xs (i + (m - 1)) 0 k ∙ g)))
-      (ap Span.At e)
-
--- an address that stands at a place is found there
-pub found_here : (n : ℕ) (xs : List ℕ) → Rising n xs → (a i : ℕ) → i < n → get_or xs i 0 ≡ a → Found.At i ≡ found_of (take n xs) a
-found_here n xs o a i h e =
-    let r : i ≡ rank (take n xs) a = sym (rank-here (take n xs) a i o.rises (rw (length-take-le n xs o.within) h) (get_or-take n xs i 0 h ∙ e)) in
-    found-present n xs o a i r h e
-
--- where the last address that is at most a is not a, a is absent
-module _ (n : ℕ) (xs : List ℕ) (o : Rising n xs) (a i : ℕ) (e : i ≡ last_at_most (take n xs) a) where
-  pub found-behind : i < n → (get_or xs i 0 ≡ a → ⊥) → Found.Absent (i + bool_byte (ltb (get_or xs i 0) a)) ≡ found_of (take n xs) a
-  found-behind h f =
-      let u : length (take n xs) ≡ n = length-take-le n xs o.within in
-      let g : get_or (take n xs) i 0 ≡ get_or xs i 0 = get_or-take n xs i 0 h in
-      rw (← g, last-other (take n xs) a i o.rises e (λ q. f (sym g ∙ q))) (ap Found.Absent (last-rank (take n xs) a i o.rises e (omega arith)))
-
-  pub found_none : n ≤ i → Found.Absent i ≡ found_of (take n xs) a
-  found_none h =
-      let u : length (take n xs) ≡ n = length-take-le n xs o.within in
-      found-end n xs o a i (last_none (take n xs) a i o.rises e (omega arith)) h
-
--- what it says of a span that it is found
-pub span-at : (l : List ℕ) (a n i : ℕ) → span_of l a n ≡ Span.At i → (has_all l a n ≡ true) × (i ≡ rank l a)
-span-at l a n i e = go (has_all l a n) refl e
-  where
-    go : (t : Bool) → has_all l a n ≡ t → choose t (Span.At (rank l a)) Span.Absent ≡ Span.At i → (has_all l a n ≡ true) × (i ≡ rank l a)
-    go true h e = (h, cc)
-    go false h e = let z : ◌≡◌ {A = ℕ} 0 1 = cc in absurd (omega arith)
-
--- a place that is found lies among the used ones, and one where an address would go not behind them
-pub found_within : (n : ℕ) (xs : List ℕ) → Rising n xs → (a i : ℕ) → Found.At i ≡ found_of (take n xs) a → i < n
-found_within n xs o a i e = subst (λ (k : ℕ). i < k) (length-take-le n xs o.within) (found_below (take n xs) a i o.rises (sym e))
-
-pub absent-within : (n : ℕ) (xs : List ℕ) → Rising n xs → (a i : ℕ) → Found.Absent i ≡ found_of (take n xs) a → i ≤ n
-absent-within n xs o a i e = rank-used n xs o a i (sym (found-absent (take n xs) a i (sym e)).1)
-
--- Capacity
-
-module _ (n : ℕ) (xs : List ℕ) (o : Rising n xs) (a m : ℕ) where
-  pub capacity-for-all : m ≤ length xs - n → true ≡ leb (n + missing (take n xs) a m) (length xs)
-  capacity-for-all h =
-      let k : missing (take n xs) a m ≤ m = missing-most (take n xs) a m in
-      let w : n ≤ length xs = o.within in
-      sym (le-leb (n + missing (take n xs) a m) (length xs) (omega arith))
-
-  module _ (low high : ℕ) (e : low ≡ rank (take n xs) a) (f : high ≡ rank (take n xs) (a + m)) where
-    pub ranks-rise : low ≤ high
-    ranks-rise = let k : rank (take n xs) a ≤ rank (take n xs) (a + m) = rank_mono (take n xs) a (a + m) (omega arith) in omega arith
-
-    -- those between the ranks are present
-    pub new-cells : m ≡ missing (take n xs) a m + (high - low)
-    new-cells =
-        let k : missing (take n xs) a m + rank (take n xs) (a + m) ≡ m + rank (take n xs) a = missing-ranks (take n xs) a m (a + m) o.rises refl in
-        let l : low ≤ high = ranks-rise in
-        omega arith
-
-    pub ranks-within : high - low ≤ m
-    ranks-within = let k : m ≡ missing (take n xs) a m + (high - low) = new-cells in omega arith
-
-    pub capacity-for-new : leb (m - (high - low)) (length xs - n) ≡ leb (n + missing (take n xs) a m) (length xs)
-    capacity-for-new = go (leb (n + missing (take n xs) a m) (length xs)) refl
-      where
-        go : (t : Bool) → leb (n + missing (take n xs) a m) (length xs) ≡ t → leb (m - (high - low)) (length xs - n) ≡ t
-        go true h =
-            let k : n + missing (take n xs) a m ≤ length xs = leb-true _ _ h in
-            let q : m ≡ missing (take n xs) a m + (high - low) = new-cells in
-            le-leb (m - (high - low)) (length xs - n) (omega arith)
-        go false h =
-            let k : length xs < n + missing (take n xs) a m = leb-false _ _ h in
-            let q : m ≡ missing (take n xs) a m + (high - low) = new-cells in
-            let w : n ≤ length xs = o.within in
-            lt-leb (m - (high - low)) (length xs - n) (omega arith)
+    pub span-ends : (m : ℕ) → has_all (take n xs) a m ≡ true → i + m ≤ n
+    span-ends m h = omega (arith, used, search.span-ends (take n xs) o.rises a i e m h)
 
 -- Contents beside the addresses
 
@@ -171,14 +70,14 @@ module _ {A : Type 0} (n : ℕ) (xs : List ℕ) (vs : List A) (o : Rising n xs) 
   beside-rises : rising_from 0 (addresses (zipped (take n xs) vs)) ≡ true
   beside-rises = ap (rising_from 0) beside-addresses ∙ o.rises
 
-  beside-found : (d : A) (a i : ℕ) → found_of (take n xs) a ≡ Found.At i → get (zipped (take n xs) vs) a ≡ present (get_or vs i d)
+  beside-found : (d : A) (a i : ℕ) → found_of (take n xs) a ≡ Ok i → get (zipped (take n xs) vs) a ≡ present (get_or vs i d)
   beside-found d a i f =
       let q = found_at (take n xs) a i f in
       present-get d 0 (zipped (take n xs) vs) a beside-rises (ap (λ (l : List ℕ). has l a) beside-addresses ∙ q.0)
       ∙ ap present (ap (λ (l : List A). get_or l (rank (addresses (zipped (take n xs) vs)) a) d) beside-contents
       ∙ ap (λ (k : ℕ). get_or vs k d) (ap (λ (l : List ℕ). rank l a) beside-addresses ∙ q.1))
 
-  beside-absent : (a i : ℕ) → found_of (take n xs) a ≡ Found.Absent i → get (zipped (take n xs) vs) a ≡ absent
+  beside-absent : (a i : ℕ) → found_of (take n xs) a ≡ Err i → get (zipped (take n xs) vs) a ≡ absent
   beside-absent a i f =
       absent-get (zipped (take n xs) vs) a (ap (λ (l : List ℕ). has l a) beside-addresses ∙ (found-absent (take n xs) a i f).0)
 
@@ -197,7 +96,7 @@ module _ (n : ℕ) (xs bs : List ℕ) (o : Rising n xs) (l : length bs ≡ lengt
   pub mark-rises : rising_from 0 (addresses (mark_cells_of n xs bs)) ≡ true
   mark-rises = beside-rises n xs (take n bs) o used-length
 
-  pub mark-found : (a i : ℕ) → found_of (take n xs) a ≡ Found.At i → get (mark_cells_of n xs bs) a ≡ present (get_or bs i 0)
+  pub mark-found : (a i : ℕ) → found_of (take n xs) a ≡ Ok i → get (mark_cells_of n xs bs) a ≡ present (get_or bs i 0)
   mark-found a i f =
       beside-found n xs (take n bs) o used-length 0 a i f ∙ ap present (get_or-take n bs i 0 (found_within n xs o a i (sym f)))
 
@@ -215,7 +114,7 @@ module _ (n : ℕ) (xs bs : List ℕ) (o : Rising n xs) (l : length bs ≡ lengt
 
   module _ (a i v : ℕ) where
     -- in the place of itself
-    stored-found : Found.At i ≡ found_of (take n xs) a
+    stored-found : Ok i ≡ found_of (take n xs) a
         → (addresses (put (mark_cells_of n xs bs) a v) ≡ take n xs) × (contents (put (mark_cells_of n xs bs) a v) ≡ set (take n bs) i v)
     stored-found e =
         let q = found_at (take n xs) a i (sym e) in
@@ -232,7 +131,7 @@ module _ (n : ℕ) (xs bs : List ℕ) (o : Rising n xs) (l : length bs ≡ lengt
         )
 
     -- in the place of none
-    stored-absent : Found.Absent i ≡ found_of (take n xs) a
+    stored-absent : Err i ≡ found_of (take n xs) a
         → (addresses (put (mark_cells_of n xs bs) a v) ≡ insert_at i a (take n xs)) × (contents (put (mark_cells_of n xs bs) a v) ≡ insert_at i v (take n bs))
     stored-absent e =
         let q = found-absent (take n xs) a i (sym e) in
@@ -298,14 +197,14 @@ module _ (n : ℕ) (xs ns ms : List ℕ) (o : Rising n xs) (l : length ns ≡ le
   pub rises-of : rising_from 0 (addresses (cells_of n xs ns ms)) ≡ true
   rises-of = beside-rises n xs (held_of (take n ns) (take n ms)) o held-length
 
-  pub get-found : (a i : ℕ) → found_of (take n xs) a ≡ Found.At i → get (cells_of n xs ns ms) a ≡ present (held (get_or ns i 0) (get_or ms i 0))
+  pub get-found : (a i : ℕ) → found_of (take n xs) a ≡ Ok i → get (cells_of n xs ns ms) a ≡ present (held (get_or ns i 0) (get_or ms i 0))
   get-found a i f =
       let b = both_used in
       let h : i < n = found_within n xs o a i (sym f) in
       beside-found n xs (held_of (take n ns) (take n ms)) o held-length (held 0 0) a i f
       ∙ ap present (get_or-held (take n ns) (take n ms) i (omega arith) (omega arith) ∙ (λ j. held (get_or-take n ns i 0 h j) (get_or-take n ms i 0 h j)))
 
-  pub get_absent : (a i : ℕ) → found_of (take n xs) a ≡ Found.Absent i → get (cells_of n xs ns ms) a ≡ absent
+  pub get_absent : (a i : ℕ) → found_of (take n xs) a ≡ Err i → get (cells_of n xs ns ms) a ≡ absent
   get_absent a i f = beside-absent n xs (held_of (take n ns) (take n ms)) o held-length a i f
 
   -- the numbers by themselves, and the moments by themselves
@@ -341,26 +240,25 @@ module _ (n : ℕ) (xs ns ms : List ℕ) (o : Rising n xs) (l : length ns ≡ le
 -- What is read
 
 module _ (guarded : Bool) (n : ℕ) (xs ns ms ts : List ℕ) (o : Ordered guarded n xs ns ms ts) (a i : ℕ) where
-  abbrev cell_here : Bool → Cell
-  cell_here t = Cell.Present (get_or ns i 0) (get_or ms i 0) t
+  pub read-present : found_of (take n xs) a ≡ Ok i
+      → Some (record { number = get_or ns i 0; moment = get_or ms i 0; marked = guarded && eqb (get_or ts i 0) 1 })
+      ≡ cell_of guarded (cells_of n xs ns ms) (mark_cells_of n xs ts) a
+  read-present f = rw (get-found n xs ns ms o.addresses o.level o.moment_level a i f) (go guarded refl)
+    where
+      go : (t : Bool) → guarded ≡ t
+          → ◌≡◌ {A = Option Cell} (Some (record { number = get_or ns i 0; moment = get_or ms i 0; marked = t && eqb (get_or ts i 0) 1 }))
+          (Some (record { number = get_or ns i 0; moment = get_or ms i 0; marked = t && cell_mark mark_cells (mark_cells_of n xs ts) a }))
+      go true t = rw (mark-found n xs ts o.addresses (o.mark_level t) a i f)
+      go false t = refl
 
-  pub read-marked : found_of (take n xs) a ≡ Found.At i → guarded ≡ true
-      → cell_here (eqb (get_or ts i 0) 1) ≡ cell_of guarded (cells_of n xs ns ms) (mark_cells_of n xs ts) a
-  read-marked f t =
-      rw (t, get-found n xs ns ms o.addresses o.level o.moment_level a i f, mark-found n xs ts o.addresses (o.mark_level t) a i f)
-
-  pub read_plain : found_of (take n xs) a ≡ Found.At i → guarded ≡ false
-      → cell_here guarded ≡ cell_of guarded (cells_of n xs ns ms) (mark_cells_of n xs ts) a
-  read_plain f t = rw (t, get-found n xs ns ms o.addresses o.level o.moment_level a i f)
-
-  pub read-absent : found_of (take n xs) a ≡ Found.Absent i → Cell.Absent ≡ cell_of guarded (cells_of n xs ns ms) (mark_cells_of n xs ts) a
+  pub read-absent : found_of (take n xs) a ≡ Err i → None ≡ cell_of guarded (cells_of n xs ns ms) (mark_cells_of n xs ts) a
   read-absent f = rw (get_absent n xs ns ms o.addresses o.level o.moment_level a i f)
 
 -- What is stored
 
 -- a cell that is found is written at its place
 module _ (guarded : Bool) (n : ℕ) (xs ns ms ts : List ℕ) (o : Ordered guarded n xs ns ms ts) (a v moment : ℕ) (t : Bool) (i : ℕ)
-    (e : Found.At i ≡ found_of (take n xs) a) where
+    (e : Ok i ≡ found_of (take n xs) a) where
   contents-written : (bs : List ℕ) (w : ℕ) → length bs ≡ length xs → set bs i w ≡ overlay (contents (put (mark_cells_of n xs bs) a w)) bs
   contents-written bs w l =
       let k : n ≤ length xs = o.addresses.within in
@@ -385,7 +283,7 @@ module _ (guarded : Bool) (n : ℕ) (xs ns ms ts : List ℕ) (o : Ordered guarde
 
 -- a new one is put in where it would go
 pub inserted-holds : (guarded : Bool) (n : ℕ) (xs ns ms ts : List ℕ) → Ordered guarded n xs ns ms ts → n < length xs → (a v moment : ℕ) (t : Bool) (i : ℕ)
-    → Found.Absent i ≡ found_of (take n xs) a → (xs' ns' ms' ts' : List ℕ) → xs' ≡ overlay (insert_at i a (take n xs)) xs
+    → Err i ≡ found_of (take n xs) a → (xs' ns' ms' ts' : List ℕ) → xs' ≡ overlay (insert_at i a (take n xs)) xs
     → ns' ≡ overlay (insert_at i v (take n ns)) ns → ms' ≡ overlay (insert_at i moment (take n ms)) ms
     → (s : Bool) → guarded ≡ s → ts' ≡ choose s (overlay (insert_at i (bit t) (take n ts)) ts) ts
     → Holding guarded (put (cells_of n xs ns ms) a (held v moment)) (put (mark_cells_of n xs ts) a (bit t)) (n + 1) xs ns ms ts xs' ns' ms' ts'

@@ -7,4 +7,5 @@ pub mod SpliceLaws
 pub mod PlaceLaws
 pub mod WriteLaws
 pub mod PartLaws
+pub mod SearchLaws
 pub mod BufferLaws

@@ -1,13 +1,13 @@
 -- Cells read through their addresses: one cell, and a span of cells, whose contents stand side by side.
-use Prim.Native.Nat.{ℕ, zero, suc, ◌+◌, ◌-◌, ◌≤◌, ◌<◌}
+use Prim.Native.Nat.{ℕ, zero, suc, ◌+◌, ◌≤◌, ◌<◌}
 use mathlib.Core.Path.{◌≡◌, refl, sym, ◌∙◌}
 use mathlib.Core.Bool.{Bool, true, false, ◌&&◌, ◌||◌}
-use mathlib.Core.List.{List, ◌∷◌}
+use mathlib.Core.List.{◌∷◌}
 use native.Mathlib.Omega.{arith}
 use lib.Dec.{eqb}
 use lib.ListN.{length, get_or, take, drop}
 use lib.Seq.{drop-cons}
-use borrow.Author.Tests.{lt-ltb, le-ltb, eqb-true, eq-eqb, ne_eqb}
+use borrow.Author.Tests.{lt-ltb, le-ltb, eqb-true}
 use Rattle.rules.specs.declared.Refusal.TheVariants.{CellAbsent}
 use Rattle.rules.specs.declared.Held.{Held}
 use Rattle.rules.specs.Numbers.{choose}
@@ -18,7 +18,7 @@ use Rattle.rules.specs.PlainMap.{is_present}
 use Rattle.rules.specs.Step.{read_many}
 use Rattle.rules.specs.Guarded.{span_mark}
 use Rattle.rules.specs.Entry.{rising_from}
-use Rattle.rules.proofs.Laws.BoolLaws.{false-true, and_left, and_right, or-first, or-equal}
+use Rattle.rules.proofs.Laws.BoolLaws.{false-true, and_left, and_right}
 use Rattle.rules.proofs.Laws.CellLaws.{length-addresses, length-contents}
 use Rattle.hardware.specs.Buffers.{rank, has, has_all, any_mark}
 use Rattle.hardware.proofs.RankLaws.{rising-rest, rising-at, rank-length, has-rank, rank-next}
@@ -103,25 +103,3 @@ span-mark t r a zero h = refl
 span-mark t r a (suc n) h =
     let e : has (addresses t) a ≡ true = and_left (has (addresses t) a) _ h in
     rw (present-get 0 0 t a r e, span-mark t r (suc a) n (and_right (has (addresses t) a) _ h), contents-from t r 0 a e)
-
--- The marks of a span, one after the other
-
-pub marks-start : (ts : List ℕ) (at n : ℕ) → any_mark (take (n - 0) (drop (at + 0) ts)) ≡ any_mark (take n (drop at ts))
-marks-start ts at n = let m : n - 0 ≡ n = omega arith in let j : at + 0 ≡ at = omega arith in rw (m, j)
-
-pub marks-end : (ts : List ℕ) (at n i : ℕ) → n ≤ i → any_mark (take (n - i) (drop (at + i) ts)) ≡ false
-marks-end ts at n i h = let m : n - i ≡ 0 = omega arith in rw m
-
-module _ (ts : List ℕ) (at n i : ℕ) (h : i < n) (k : at + n ≤ length ts) where
-  marks-next : any_mark (take (n - i) (drop (at + i) ts)) ≡ (eqb (get_or ts (at + i) 0) 1 || any_mark (take (n - (i + 1)) (drop (at + (i + 1)) ts)))
-  marks-next =
-      let m : n - i ≡ suc (n - (i + 1)) = omega arith in
-      let j : at + (i + 1) ≡ suc (at + i) = omega arith in
-      rw (j, m, drop-cons ts (at + i) 0 (omega arith))
-
-  pub mark-here : get_or ts (at + i) 0 ≡ 1 → any_mark (take (n - i) (drop (at + i) ts)) ≡ true
-  mark-here e = marks-next ∙ or-first _ (eq-eqb _ _ e)
-
-  pub mark-behind : (get_or ts (at + i) 0 ≡ 1 → ⊥)
-      → any_mark (take (n - (i + 1)) (drop (at + (i + 1)) ts)) ≡ any_mark (take (n - i) (drop (at + i) ts))
-  mark-behind e = sym (marks-next ∙ or-equal (ne_eqb _ _ e) refl)

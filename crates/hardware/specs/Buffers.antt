@@ -1,5 +1,6 @@
 -- Cells in buffers.
-use Rattle.std.specs.Prelude.{ℕ, zero, suc, ◌-◌, ◌≤◌, ◌≡◌, Bool, true, false, ◌&&◌, ◌||◌, List, [], ◌∷◌, ltb, eqb, length, take}
+use Rattle.std.specs.Prelude.{ℕ, zero, suc, ◌-◌, ◌≤◌, ◌≡◌, Bool, true, false, ◌&&◌, ◌||◌, List, [], ◌∷◌, ltb, eqb, length, take, Option, Some, None, Result, Ok, Err}
+use Rattle.std.specs.List.{list_any}
 use Rattle.rules.specs.declared.Held.{Held}
 use Rattle.rules.specs.Numbers.{choose}
 use Rattle.rules.specs.Memory.{Content, absent, present, held, numbers_of, moments_of, held_of}
@@ -8,9 +9,7 @@ use Rattle.rules.specs.Cells.{Cells, zipped, get, put, count, mark_cells}
 use Rattle.rules.specs.Step.{overlay}
 use Rattle.rules.specs.Guarded.{cell_mark}
 use Rattle.rules.specs.Entry.{rising_from}
-use Rattle.hardware.specs.declared.cells.Found.{Found}
 use Rattle.hardware.specs.declared.cells.Cell.{Cell}
-use Rattle.hardware.specs.declared.cells.Span.{Span}
 
 -- Among rising addresses
 
@@ -29,8 +28,8 @@ has [] a = false
 has (b ∷ l) a = eqb b a || has l a
 
 -- where it is, or where it would go
-abbrev pub found_of : List ℕ → ℕ → Found
-found_of l a = choose (has l a) (Found.At (rank l a)) (Found.Absent (rank l a))
+abbrev pub found_of : List ℕ → ℕ → Result ℕ ℕ
+found_of l a = choose (has l a) (Ok (rank l a)) (Err (rank l a))
 
 -- are all n from a on among them?
 abbrev pub has_all : List ℕ → ℕ → ℕ → Bool
@@ -38,8 +37,8 @@ has_all l a zero = true
 has_all l a (suc n) = has l a && has_all l (suc a) n
 
 -- where the first of a span's cells is
-abbrev pub span_of : List ℕ → ℕ → ℕ → Span
-span_of l a n = choose (has_all l a n) (Span.At (rank l a)) Span.Absent
+abbrev pub span_of : List ℕ → ℕ → ℕ → Option ℕ
+span_of l a n = choose (has_all l a n) (Some (rank l a)) None
 
 -- how many of the n from a on are not among them
 abbrev pub missing : List ℕ → ℕ → ℕ → ℕ
@@ -56,12 +55,12 @@ cells_of n xs ns ms = zipped (take n xs) (held_of (take n ns) (take n ms))
 abbrev pub mark_cells_of : ℕ → List ℕ → List ℕ → Cells ℕ
 mark_cells_of n xs ts = zipped (take n xs) (take n ts)
 
-abbrev pub content_cell : Content Held → Bool → Cell
-content_cell absent t = Cell.Absent
-content_cell (present h) t = Cell.Present h.number h.moment t
+abbrev pub content_cell : Content Held → Bool → Option Cell
+content_cell absent t = None
+content_cell (present h) t = Some (record { number = h.number; moment = h.moment; marked = t })
 
 -- a cell, and in a guarded run its mark
-abbrev pub cell_of : Bool → Cells Held → Cells ℕ → ℕ → Cell
+abbrev pub cell_of : Bool → Cells Held → Cells ℕ → ℕ → Option Cell
 cell_of guarded c t a = content_cell (get c a) (guarded && cell_mark mark_cells t a)
 
 -- the cells with values from an address on, which all have one moment
@@ -71,8 +70,7 @@ put_many moment c a (v ∷ vs) = put_many moment (put c a (held v moment)) (suc 
 
 -- is one of the marks set?
 abbrev pub any_mark : List ℕ → Bool
-any_mark [] = false
-any_mark (t ∷ ts) = eqb t 1 || any_mark ts
+any_mark ts = list_any (λ t. eqb t 1) ts
 
 -- the first n addresses of a buffer rise within stack and heap
 pub record Rising (n : ℕ) (xs : List ℕ) : Type 0 where

@@ -1,5 +1,5 @@
 -- Where a value goes among the used elements of a buffer.
-use Rattle.std.specs.Prelude.{ℕ, zero, suc, List, [], ◌∷◌, ◌++◌, take, drop}
+use Rattle.std.specs.Prelude.{ℕ, zero, suc, List, [], ◌∷◌, ◌++◌, length, take, drop, replicate}
 use Rattle.rules.specs.Step.{overlay}
 
 -- v put in at a place; those from there on move up by one
@@ -14,8 +14,7 @@ overwritten i vs l = take i l ++ overlay vs (drop i l)
 
 -- as many of one value
 abbrev pub filled : ℕ → List ℕ → List ℕ
-filled v [] = []
-filled v (x ∷ l) = v ∷ filled v l
+filled v l = replicate (length l) v
 
 -- n addresses without gaps
 abbrev pub consecutive : ℕ → ℕ → List ℕ

@@ -4,5 +4,6 @@
 // register and no program.
 #![tactic(auto)]
 
+pub mod addresses;
 pub mod cells;
 pub mod regions;

@@ -21,19 +21,16 @@ impl Region {
 
     pub const PROPHET_END: u64 = GoldilocksField::ORDER;
 
-    // The region of an address.
+    // The region of an address. Not `From`: `Region::of(address)` says what is asked.
+    #[tactic(auto, using(std::proofs::lemmas::Bool::Decides::nat_tests), unfolding(rules::specs::Numbers::stack_end, rules::specs::Numbers::heap_end, rules::specs::Numbers::p))]
     pub fn of(address: u64) -> Region
         ensures { result ≡ region_of address }
     {
-        if address < Region::STACK_END {
-            return Region::Stack;
+        match address {
+            ..Region::STACK_END => Region::Stack,
+            ..Region::HEAP_END => Region::Heap,
+            ..Region::PROPHET_END => Region::Prophet,
+            _ => Region::Outside,
         }
-        if address < Region::HEAP_END {
-            return Region::Heap;
-        }
-        if address < Region::PROPHET_END {
-            return Region::Prophet;
-        }
-        Region::Outside
     }
 }

@@ -1,4 +1,5 @@
 -- A buffer with characters laid over it: its length, nothing laid over, more laid after, one more stored.
+use Rattle.std.specs.Prelude.{Some, None}
 use mathlib.Core.Path.{◌≡◌, sym, ap, ap₂, ◌∙◌}
 use mathlib.Core.List.{List, [], ◌∷◌, ◌++◌, append_assoc}
 use Prim.Native.Nat.{ℕ, suc, ◌+◌, ◌<◌, ◌≤◌}
@@ -6,7 +7,6 @@ use native.Mathlib.Omega.{arith}
 use lib.ListN.{length, take, drop, set, length-append, length-drop, take-append-drop, length-take, length-set}
 use lib.Seq.{length-take-le, take_at, drop-drop, drop-cons, get_or-set_same, drop-set-lt, take-set-le, drop-append-add}
 use borrow.Author.Tests.{le-leb, lt-leb}
-use Rattle.hexadecimal.specs.declared.Put.TheVariants.{Next, NoSpace}
 use Rattle.hexadecimal.specs.Writing.{overlay_at, Writes}
 
 module _ (b : List ℕ) (at : ℕ) where
@@ -46,8 +46,8 @@ module _ (b : List ℕ) (at : ℕ) where
         let s : at + length (xs ++ (c ∷ [])) ≡ suc k = omega (arith, length-append xs (c ∷ [])) in
         rw (t, d, s, append_assoc)
 
-    pub no-space : length b < at + length xs → Writes xs b at NoSpace b
+    pub no-space : length b < at + length xs → Writes xs b at None b
     no-space h = let e = lt-leb (at + length xs) (length b) h in record { answer = rw e; written = rw e }
 
-    pub all-written : at + length xs ≤ length b → Writes xs b at (Next (at + length xs)) (overlay_at b at xs)
+    pub all-written : at + length xs ≤ length b → Writes xs b at (Some (at + length xs)) (overlay_at b at xs)
     all-written h = let e = le-leb (at + length xs) (length b) h in record { answer = rw e; written = rw e }

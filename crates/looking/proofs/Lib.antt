@@ -1,7 +1,5 @@
 -- The proofs of what is seen of a step.
 pub mod Below
-pub mod Readying
 pub mod Unseen
 pub mod Shown
-pub mod Rows
 pub mod Sights

@@ -1,34 +1,36 @@
 -- What is seen of the step from a snapshot: by its row, and by its operands at their slots.
+use Rattle.std.specs.Prelude.{Some, Err}
 use Prim.Native.Nat.{ℕ, ◌<◌}
-use mathlib.Core.Path.{◌≡◌, refl, sym, ap, subst, ◌∙◌}
+use mathlib.Core.Path.{◌≡◌, refl, ap, subst, ◌∙◌}
 use mathlib.Core.Bool.{Bool, true, false, ◌&&◌}
 use mathlib.Core.List.{List}
-use lib.Dec.{leb, lit<}
+use lib.Dec.{leb}
 use lib.ListN.{length, get_or, take}
 use Rattle.rules.specs.declared.OlaOpcode.{OlaOpcode}
 use Rattle.rules.specs.declared.Instruction.{Instruction}
 use Rattle.rules.specs.declared.Machine.{Machine}
 use Rattle.rules.specs.declared.Refusal.{Refusal}
+use Rattle.rules.specs.declared.Refusal.TheVariants.{NoInstruction}
 use Rattle.rules.specs.Results.{Result, refuse, pass, bind}
 use Rattle.rules.specs.Opcodes.{Class, addition, multiplication, equality, small, complement, move, assert, range_check, jump, conditional_jump, call, return, load, store, tape_load, tape_store, contract_call, end, uncovered, class_of, is_covered}
 use Rattle.rules.specs.Operands.{wants_of, instruction_at, value_of, operand, Operands, operands}
 use Rattle.rules.specs.Cells.{number_cells}
 use Rattle.rules.specs.Step.{Environment, State, Next, r9, read_below, operate, capacity, step}
 use Rattle.rules.specs.Entry.{Snapshot, environment, state_of}
-use Rattle.rules.specs.Handed.{snapshot}
+use Rattle.rules.specs.Handed.{snapshot, no_marks}
 use Rattle.rules.proofs.Laws.ResultLaws.{bind-pass, require-pass}
 use Rattle.program.specs.declared.table.Row.{Row}
-use Rattle.program.specs.declared.table.Place.TheVariants.{Outside}
-use Rattle.program.specs.Table.{Standing, Stands, computed_dst, program_of, row_number, fetched_of, place_of, Says, TableOf}
-use Rattle.program.proofs.Fetching.{Placed, placed-outside}
-use Rattle.operands.specs.declared.Computed.{Computed}
-use Rattle.operands.specs.declared.Computed.TheVariants.{Ready, Refused}
-use Rattle.operands.specs.Meanings.{numbers_of, Prepared, Refuses}
+use Rattle.program.specs.Table.{Standing, Stands, computed_dst, program_of, frame_place, Describes, Says}
+use Rattle.hardware.specs.Buffers.{Rising}
+use Rattle.operands.specs.Meanings.{numbers_of, Prepared, Refuses, Computes}
+use Rattle.effects.specs.Deciding.{AtRow}
+use Rattle.interpreter.proofs.Preparing.{frame_here}
 use Rattle.sheets.specs.Lines.{present_of, shown, line_words}
 use Rattle.sheets.specs.Traced.{is_refused, number_of, reads_further, is_unread}
 use Rattle.sheets.specs.StepBeside.{meets_unread, line_here}
 use Rattle.looking.specs.declared.Sight.{Sight}
-use Rattle.looking.specs.Looks.{no_sight, Prepares, Seen, Looks}
+use Rattle.looking.specs.Looks.{no_sight, absent_below, sight_of, Looks}
+use Rattle.looking.proofs.Below.{absent-read}
 use Rattle.looking.proofs.Shown.{alike, evaluated, same_line, shown-below}
 use Rattle.looking.proofs.Unseen.{Unseen, unstarted, fetched, uncovered-unseen, refused}
 
@@ -147,7 +149,7 @@ module _ (e : Environment) (s : State number_cells) {i : Instruction} (h : instr
   line-here false f n q = absurd ((uncovered-unseen e s h f).stops n q)
 
 -- From a snapshot
-module _ {ws rows : List ℕ} (t : TableOf ws rows) (m : Machine) (xs ns ms tape output : List ℕ) where
+module _ (ws : List ℕ) (m : Machine) (xs ns ms tape output : List ℕ) where
   abbrev from : Snapshot
   from = snapshot m xs ns ms tape output
 
@@ -160,43 +162,34 @@ module _ {ws rows : List ℕ} (t : TableOf ws rows) (m : Machine) (xs ns ms tape
   unseen : Unseen e s → Looks (program_of ws) from no_sight
   unseen u = record { unread = u.read; line = λ n q. absurd (u.stops n q) }
 
-  pub outside-looks : Outside ≡ place_of rows m.pc → Looks (program_of ws) from no_sight
-  outside-looks h = unseen (unstarted e s _ (placed-outside t m.pc h))
+  pub outside-looks : instruction_at (program_of ws) m.pc ≡ refuse NoInstruction → Looks (program_of ws) from no_sight
+  outside-looks h = unseen (unstarted e s _ h)
 
-  module _ (row : Row) (at : Placed rows m.pc row) (values : List ℕ) (st : Standing m.psp ws values)
-      (kept : take 10 values ≡ m.registers) where
-    refused-at : (x : Result Instruction) → instruction_at (program_of ws) m.pc ≡ x → {r : Computed} {values' : List ℕ}
-        → Prepares ws rows row values r values' → (f : Refusal) → r ≡ Refused f → Unseen e s
-    refused-at (refuse g) h p f q = unstarted e s g h
-    refused-at (pass i) h {r} {values'} p f q =
-        refused e s h f
-        (subst (λ (l : List ℕ). Refuses false m.psp l i f) kept
-        ((subst (λ (r : Computed). Prepares ws rows row values r values') q p).leaves m.psp m.pc i at.at st h))
+  module _ (row : Row) (says : Says ws m.pc row (instruction_at (program_of ws) m.pc)) (values : List ℕ) where
+    pub refused-looks : Standing m.psp ws values → take 10 values ≡ m.registers → (place : ℕ) (some : frame_place row.frame ≡ Some place) (f : Refusal) (values' : List ℕ)
+        → Computes ws place row.op0 false values (Err f) values' → Looks (program_of ws) from no_sight
+    refused-looks st kept place some f values' c =
+        let h = frame_here ws m.pc row says place some in
+        let d : Describes ws m.pc row h.instruction = subst (Says ws m.pc row) h.starts says in
+        unseen (refused e s h.starts f
+        (subst (λ (l : List ℕ). Refuses false m.psp l h.instruction f) kept (c.leaves m.psp row.op1 row.dst h.instruction st h.is d.op0 d.op1 d.dst)))
 
-    pub refused-looks : {r : Computed} {values' : List ℕ} → Prepares ws rows row values r values' → (f : Refusal) → r ≡ Refused f
-        → Looks (program_of ws) from no_sight
-    refused-looks p f q = unseen (refused-at (instruction_at (program_of ws) m.pc) refl p f q)
+    module _ (rising : Rising m.cell_count xs) (level : length ns ≡ length xs) (moment_level : length ms ≡ length xs)
+        (ready : AtRow (record { guarded = false; extras = no_marks }) m.psp ws row values m.pc) (kept : take 10 values ≡ m.registers) where
+      abbrev seen : Sight
+      seen = sight_of row (absent_below (take m.cell_count xs) (get_or m.registers 9 0)) values
 
-    module _ (level : length ns ≡ length xs) (moment_level : length ms ≡ length xs) {values' : List ℕ}
-        (p : Prepares ws rows row values Ready values') {r : Sight}
-        (v : Seen rows row (get_or m.registers 9 0) m.cell_count xs values' r) where
-      seen_at : (x : Result Instruction) → instruction_at (program_of ws) m.pc ≡ x → Says ws rows m.pc x → Looks (program_of ws) from r
-      seen_at (refuse g) h (n, z) =
-          subst (Looks (program_of ws) from) (sym (v.none (ap fetched_of (at.first ∙ z 0 (lit< tt))))) (unseen (unstarted e s g h))
+      seen_at : (x : Result Instruction) → instruction_at (program_of ws) m.pc ≡ x → Says ws m.pc row x → Looks (program_of ws) from seen
+      seen_at (refuse g) h (n, z) = rw z (unseen (unstarted e s g h))
       seen_at (pass i) h d =
-          let c = class_of i.opcode in
-          let s0 = row_number rows m.pc 2 in
-          let s1 = row_number rows m.pc 3 in
-          let s_dst = row_number rows m.pc 4 in
-          let q = p.leaves m.psp m.pc i at.at st h in
-          let k = p.registers ∙ kept in
-          let sees = v.some i.opcode (ap fetched_of at.first ∙ d.opcode) ns ms level moment_level in
-          subst (Looks (program_of ws) from)
-          (sym (rw (at.number 2, at.number 3, at.number 4) at sees))
+          let q = ready.prepared i h in
+          let a = absent-read m.cell_count xs rising (get_or m.registers 9 0) ns ms level moment_level in
+          rw d.opcode
           (record {
-            unread = unread-here e s h ws values' s0 s1 s_dst k q d.dst (is_covered c) refl;
-            line = line-here e s h ws values' s0 s1 s_dst k q d.dst (is_covered c) refl;
+            unread = ap (λ (b : Bool). reads_further (class_of i.opcode) && b) a
+                ∙ unread-here e s h ws values row.op0 row.op1 row.dst kept q d.dst (is_covered (class_of i.opcode)) refl;
+            line = line-here e s h ws values row.op0 row.op1 row.dst kept q d.dst (is_covered (class_of i.opcode)) refl;
           })
 
-      pub seen-looks : Looks (program_of ws) from r
-      seen-looks = seen_at (instruction_at (program_of ws) m.pc) refl (t.says m.pc at.below)
+      pub seen-looks : Looks (program_of ws) from seen
+      seen-looks = seen_at (instruction_at (program_of ws) m.pc) refl says

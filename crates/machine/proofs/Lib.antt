@@ -1,4 +1,2 @@
--- What the walks of this crate's functions share; the statement about the guarded steps holds.
-pub mod Records
-pub mod Slices
+-- The statement about the guarded steps holds.
 pub mod GuardedStepsHold

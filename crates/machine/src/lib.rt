@@ -5,6 +5,9 @@
 // record and the buffers that they are lent. `lend_and_step` and `lend_and_step_guarded` lend a record of their own to these two: they are
 // for callers that have a record by value. Demand 3 of the guarded two is `NonInterferingInPlace` (specs/GuardedStepsInPlace.antt, proved in
 // proofs/GuardedStepsHold.antt).
+//
+// README.md names both steps and `NonInterferingInPlace` both guarded functions, so none of them is made of another's; each passes on what
+// a step by value gives.
 #![tactic(auto)]
 
 ghost use Rattle.std.specs.Prelude.{◌≡◌};
@@ -47,9 +50,8 @@ pub fn step(
         words, *machine, addresses, numbers, moments, tape, output,
     );
     *machine = ran.machine;
-    let answer = ran.answer;
     Answered {
-        answer,
+        answer: ran.answer,
         steps: ran.steps,
     }
 }
@@ -70,7 +72,7 @@ pub fn lend_and_step(
     ensures extras_value { result.extras ≡ no_marks }
 {
     let mut record = machine;
-    let answered = step(
+    let Answered { answer, steps } = step(
         words,
         &mut record,
         addresses,
@@ -79,10 +81,9 @@ pub fn lend_and_step(
         tape,
         output,
     );
-    let answer = answered.answer;
     Ran {
         answer,
-        steps: answered.steps,
+        steps,
         machine: record,
         extras: Marks { registers: 0 },
     }
@@ -105,12 +106,10 @@ pub fn guarded_step(
         addresses.old numbers.old moments.old marks.old
         tape.old output.old) }
 {
-    let kept = *machine;
-    let plain = kept.machine;
     let ran = executor::guarded::step_words(
         words,
-        plain,
-        kept.extras,
+        machine.machine,
+        machine.extras,
         addresses,
         numbers,
         moments,
@@ -118,14 +117,12 @@ pub fn guarded_step(
         tape,
         output,
     );
-    let left = ran.machine;
     *machine = GuardedMachine {
-        machine: left,
+        machine: ran.machine,
         extras: ran.extras,
     };
-    let answer = ran.answer;
     Answered {
-        answer,
+        answer: ran.answer,
         steps: ran.steps,
     }
 }
@@ -148,7 +145,7 @@ pub fn lend_and_step_guarded(
         tape.old output.old) }
 {
     let mut record = machine;
-    let answered = guarded_step(
+    let Answered { answer, steps } = guarded_step(
         words,
         &mut record,
         addresses,
@@ -158,12 +155,10 @@ pub fn lend_and_step_guarded(
         tape,
         output,
     );
-    let answer = answered.answer;
-    let left = record.machine;
     Ran {
         answer,
-        steps: answered.steps,
-        machine: left,
+        steps,
+        machine: record.machine,
         extras: record.extras,
     }
 }

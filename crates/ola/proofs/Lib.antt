@@ -1,5 +1,4 @@
 -- Laws of what a call leaves; the statements about refusal 2 and about the guarded functions hold.
-pub mod LeftLaws
 pub mod MalformedShown
 pub mod SinkWords
 pub mod GuardedRecordsHold

@@ -9,8 +9,9 @@ ghost use Rattle.rules.specs.Handed.{guarded_snapshot};
 ghost use Rattle.records.specs.Records.{machine_of, marks_of, answer_record};
 ghost use Rattle.ola.specs.Lent.{guarded_buffers, guarded_left};
 
+use crate::write_guarded;
 use machine::GuardedMachine;
-use records::{answer_record, machine_of, machine_record, marks_of, marks_record};
+use records::{answer_record, machine_of, marks_of};
 
 // Runs a program of bare words.
 #[unsafe(no_mangle)]
@@ -46,12 +47,7 @@ pub extern "C" fn ola_guarded_run_words(
         tape,
         output,
     );
-    let given = ran.answer;
-    let left = ran.machine;
-    *answer = answer_record(given, ran.steps);
-    *machine = machine_record(left);
-    let after = ran.extras;
-    *extras = marks_record(after);
+    write_guarded(ran, machine, extras, answer);
 }
 
 // Takes one step of a program of bare words, of a guarded machine that is lent to it.
@@ -88,12 +84,7 @@ pub extern "C" fn ola_guarded_step_words(
         tape,
         output,
     );
-    let given = ran.answer;
-    let left = ran.machine;
-    *answer = answer_record(given, ran.steps);
-    *machine = machine_record(left);
-    let after = ran.extras;
-    *extras = marks_record(after);
+    write_guarded(ran, machine, extras, answer);
 }
 
 // Runs a program as text.
@@ -130,12 +121,7 @@ pub extern "C" fn ola_guarded_run_text(
         tape,
         output,
     );
-    let given = ran.answer;
-    let left = ran.machine;
-    *answer = answer_record(given, ran.steps);
-    *machine = machine_record(left);
-    let after = ran.extras;
-    *extras = marks_record(after);
+    write_guarded(ran, machine, extras, answer);
 }
 
 // Runs a program as text with a budget line.
@@ -170,12 +156,7 @@ pub extern "C" fn ola_guarded_run_budget_text(
         tape,
         output,
     );
-    let given = ran.answer;
-    let left = ran.machine;
-    *answer = answer_record(given, ran.steps);
-    *machine = machine_record(left);
-    let after = ran.extras;
-    *extras = marks_record(after);
+    write_guarded(ran, machine, extras, answer);
 }
 
 // What a run of a program of bare words is refused with at entry; else e3.

@@ -13,6 +13,9 @@
 // Each function takes any arguments and answers, and touches nothing but what it is lent. A call refused at entry writes its answer and
 // leaves the rest: the records of machine and extras are written anew and are what they were (`RecordsKept` of crate records).
 // include/ola.h is the same for a person.
+//
+// The functions of one form differ little: C calls each by its name and hands it numbers, slices and records, so none can be generic, and
+// none takes buffers in a struct. What they do is done once, in the crates below.
 #![tactic(auto)]
 
 mod guarded_calls;
@@ -20,7 +23,31 @@ mod plain_calls;
 mod traced_calls;
 
 ghost use Rattle.std.specs.Prelude.{◌≡◌};
+ghost use Rattle.rules.specs.Answers.{meaning};
 ghost use Rattle.rules.specs.Solve.{kilosteps};
+ghost use Rattle.records.specs.Records.{machine_record, marks_record, answer_record};
+
+use records::{answer_record, machine_record, marks_record};
+use rules::Ran;
+
+// Writes what a call gave into the records of answer and machine.
+fn write(ran: Ran, machine: &mut [u64; 20], answer: &mut [u64; 8])
+    ensures machine_written { machine.new ≡ machine_record ran.machine }
+    ensures answer_written { answer.new ≡ answer_record (meaning ran.answer) ran.steps }
+{
+    *answer = answer_record(ran.answer, ran.steps);
+    *machine = machine_record(ran.machine);
+}
+
+// The same of a guarded call, which has a record of its extras too.
+fn write_guarded(ran: Ran, machine: &mut [u64; 20], extras: &mut [u64; 1], answer: &mut [u64; 8])
+    ensures machine_written { machine.new ≡ machine_record ran.machine }
+    ensures extras_written { extras.new ≡ marks_record ran.extras }
+    ensures answer_written { answer.new ≡ answer_record (meaning ran.answer) ran.steps }
+{
+    write(ran, machine, answer);
+    *extras = marks_record(ran.extras);
+}
 
 // clk in kilosteps, the league's unit.
 #[unsafe(no_mangle)]

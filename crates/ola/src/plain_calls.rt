@@ -6,7 +6,8 @@ ghost use Rattle.rules.specs.Handed.{snapshot};
 ghost use Rattle.records.specs.Records.{machine_of, answer_record};
 ghost use Rattle.ola.specs.Lent.{buffers, plain_left};
 
-use records::{answer_record, machine_of, machine_record};
+use crate::write;
+use records::{answer_record, machine_of};
 
 // Runs a program of bare words.
 #[unsafe(no_mangle)]
@@ -37,10 +38,7 @@ pub extern "C" fn ola_run_words(
         tape,
         output,
     );
-    let given = ran.answer;
-    let left = ran.machine;
-    *answer = answer_record(given, ran.steps);
-    *machine = machine_record(left);
+    write(ran, machine, answer);
 }
 
 // Takes one step of a program of bare words, of a machine that is lent to it.
@@ -70,10 +68,7 @@ pub extern "C" fn ola_step_words(
         tape,
         output,
     );
-    let given = ran.answer;
-    let left = ran.machine;
-    *answer = answer_record(given, ran.steps);
-    *machine = machine_record(left);
+    write(ran, machine, answer);
 }
 
 // Runs a program as text.
@@ -105,10 +100,7 @@ pub extern "C" fn ola_run_text(
         tape,
         output,
     );
-    let given = ran.answer;
-    let left = ran.machine;
-    *answer = answer_record(given, ran.steps);
-    *machine = machine_record(left);
+    write(ran, machine, answer);
 }
 
 // Runs a program as text with a budget line.
@@ -138,10 +130,7 @@ pub extern "C" fn ola_run_budget_text(
         tape,
         output,
     );
-    let given = ran.answer;
-    let left = ran.machine;
-    *answer = answer_record(given, ran.steps);
-    *machine = machine_record(left);
+    write(ran, machine, answer);
 }
 
 // What a run of a program of bare words is refused with at entry; else e3.

@@ -4,7 +4,8 @@ ghost use Rattle.sheets.specs.TracedCalls.{traced_snapshot, traced_words, traced
 ghost use Rattle.records.specs.Records.{machine_of};
 ghost use Rattle.ola.specs.Lent.{traced_buffers, traced_left};
 
-use records::{answer_record, machine_of, machine_record};
+use crate::write;
+use records::machine_of;
 
 // Runs a program of bare words.
 #[unsafe(no_mangle)]
@@ -38,10 +39,7 @@ pub extern "C" fn ola_traced_run_words(
         output,
         sheet,
     );
-    let given = ran.answer;
-    let left = ran.machine;
-    *answer = answer_record(given, ran.steps);
-    *machine = machine_record(left);
+    write(ran, machine, answer);
 }
 
 // Runs a program as text.
@@ -76,10 +74,7 @@ pub extern "C" fn ola_traced_run_text(
         output,
         sheet,
     );
-    let given = ran.answer;
-    let left = ran.machine;
-    *answer = answer_record(given, ran.steps);
-    *machine = machine_record(left);
+    write(ran, machine, answer);
 }
 
 // Runs a program as text with a budget line.
@@ -112,8 +107,5 @@ pub extern "C" fn ola_traced_run_budget_text(
         output,
         sheet,
     );
-    let given = ran.answer;
-    let left = ran.machine;
-    *answer = answer_record(given, ran.steps);
-    *machine = machine_record(left);
+    write(ran, machine, answer);
 }

@@ -1,5 +1,4 @@
 -- What the functions' proofs have in common, and for the crates above what the answers say.
-pub mod NotOfKind
 pub mod Slots
 pub mod Filling
 pub mod Preparing

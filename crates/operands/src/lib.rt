@@ -5,12 +5,3 @@
 
 pub mod marks;
 pub mod values;
-
-use rules::Refusal;
-
-// The operands stand at their slots, or one is refused.
-#[derive(Clone, Copy)]
-pub enum Computed {
-    Ready,
-    Refused(Refusal),
-}

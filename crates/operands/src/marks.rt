@@ -21,7 +21,7 @@ pub fn is_product_marked(op0: u64, op0_mark: bool, op1: u64, op1_mark: bool) -> 
     op1_mark & (op0 != 0)
 }
 
-// The marks after a register was written.
+// The marks after a register was written. They are the number that rules' `Marks` has, and C's records, so no `RegisterSet`.
 pub fn with_mark(marks: u64, register: usize, mark: bool) -> u64
     requires marks_lt_set_end { marks < set_end }
     requires register_bound { register < 10 }

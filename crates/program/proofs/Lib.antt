@@ -2,7 +2,6 @@
 pub mod OperandKinds
 pub mod Frames
 pub mod Decoding
-pub mod Writing
 pub mod Describing
 pub mod Starts
 pub mod Loading

@@ -2,8 +2,7 @@
 // that it is lent, and nothing else is touched.
 //
 // Public: `binary_program::{frame_length, decode}`, `table::check_words`.
-// Internal, for the crates above: `table::{load_words, row_at}`, and the methods of `table::Row`, which tell its pc or take a number from
-// it.
+// Internal, for the crates above: `table::Loaded`, a program that passed its check, with its table, and the methods of `table::Row`.
 #![tactic(auto)]
 
 pub mod binary_program;

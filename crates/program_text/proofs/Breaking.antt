@@ -1,27 +1,24 @@
--- Breaking a text into lines: the line that starts at a place ends at its first line feed, or with the text.
-use mathlib.Core.Path.{◌≡◌, refl, ap, ◌∙◌}
+-- Breaking a text into lines: the first line ends at the first line feed, or with the text.
+use mathlib.Core.Path.{◌≡◌, refl, sym, ap, ◌∙◌}
 use mathlib.Core.List.{List, [], ◌∷◌, ◌++◌, append-nil, append_assoc}
-use Prim.Native.Nat.{ℕ, zero, suc, ◌+◌, ◌-◌, ◌≤◌, ◌<◌}
+use Prim.Native.Nat.{ℕ, zero, suc, ◌+◌, ◌≤◌, ◌<◌}
 use native.Mathlib.Nat.{not-suc-le-zero, le_of_suc-le-suc}
 use native.Mathlib.Omega.{arith}
 use lib.Dec.{eqb, ltb}
-use lib.ListN.{length, take, drop, get_or, length-drop, drop_of_length-le}
-use lib.Seq.{drop-cons, drop-drop}
-use borrow.Author.Tests.{eq-eqb, ne_eqb, ltb-true, ltb-false}
+use native.Mathlib.Numerals.{add-one}
+use lib.ListN.{length, take, drop}
+use borrow.Author.Tests.{ne_eqb, lt-ltb, le-ltb, ltb-true, ltb-false}
+use Rattle.std.specs.Prelude.{not, Option, Some, None, nat_eq}
+use Rattle.std.specs.List.{position, position_or_len}
 use Rattle.rules.specs.Text.{ended, unended, line_feed, lines_after, lines_of}
 use Rattle.rules.proofs.EntryRefusals.TextSizes.{lines_step}
 use Rattle.frames.proofs.Cases.{cases}
 use Rattle.program_text.specs.TextLines.{line_length}
 
--- one character more or less
-pub length-feed : (text : List ℕ) (i : ℕ) → i < length text → get_or text i 0 ≡ line_feed → line_length (drop i text) ≡ 0
-length-feed text i h e = ap line_length (drop-cons text i 0 h) ∙ rw (eq-eqb (get_or text i 0) line_feed e)
-
-pub length-other : (text : List ℕ) (i : ℕ) → i < length text → (get_or text i 0 ≡ line_feed → ⊥) → line_length (drop i text) ≡ suc (line_length (drop (suc i) text))
-length-other text i h n = ap line_length (drop-cons text i 0 h) ∙ rw (ne_eqb (get_or text i 0) line_feed n)
-
-pub length-end : (text : List ℕ) (i : ℕ) → length text ≤ i → line_length (drop i text) ≡ 0
-length-end text i h = ap line_length (drop_of_length-le text h)
+-- the first line feed's position, as std has it; where there is none, the text's length
+length-position : (t : List ℕ) → position_or_len (λ c. nat_eq c line_feed) t ≡ line_length t
+length-position [] = refl
+length-position (c ∷ cs) = let ih = length-position cs in cases (eqb c line_feed) (λ e. rw e) (λ e. rw e (omega arith))
 
 -- the first line feed ends the line
 ends : (l t : List ℕ) → line_length t < length t → lines_after l t ≡ ended (l ++ take (line_length t) t) ∷ lines_after [] (drop (suc (line_length t)) t)
@@ -54,33 +51,50 @@ pub length-le : (t : List ℕ) → line_length t ≤ length t
 length-le [] = omega arith
 length-le (c ∷ cs) = cases (eqb c line_feed) (λ e. rw e (omega arith)) (λ e. let h = length-le cs in rw e (omega arith))
 
--- The same at a place of a text
+-- The lines of a text
 
-pub lines_none : (text : List ℕ) (at : ℕ) → length text ≤ at → lines_of (drop at text) ≡ []
+pub lines_none : (t : List ℕ) → length t ≡ 0 → lines_of t ≡ []
 unfolding lines_after
-lines_none text at h = rw (drop_of_length-le text h)
+lines_none [] e = refl
+lines_none (c ∷ cs) e = let z : suc (length cs) ≡ zero = e in absurd (omega arith)
 
-pub lines_next : (text : List ℕ) (at end : ℕ) → end ≡ at + line_length (drop at text) → end < length text
-    → lines_of (drop at text) ≡ ended (take (end - at) (drop at text)) ∷ lines_of (drop (end + 1) text)
-lines_next text at end e h =
-    let t = drop at text in
-    let n : line_length t ≡ end - at = omega arith in
-    let l = length-drop at text in
-    let m : at + suc (line_length t) ≡ end + 1 = omega arith in
-    ends [] t (omega arith)
-    ∙ ap (λ (k : ℕ). ended (take k t) ∷ lines_after [] (drop (suc (line_length t)) t)) n
-    ∙ ap (λ (r : List ℕ). ended (take (end - at) t) ∷ lines_after [] r) (drop-drop (suc (line_length t)) at text ∙ ap (λ (k : ℕ). drop k text) m)
+pub lines_next : (t : List ℕ) → line_length t < length t → lines_of t ≡ ended (take (line_length t) t) ∷ lines_of (drop (line_length t + 1) t)
+lines_next t h = rw add-one (ends [] t h)
 
-pub lines-last : (text : List ℕ) (at end : ℕ) → end ≡ at + line_length (drop at text) → at < length text → end ≡ length text → lines_of (drop at text) ≡ unended ∷ []
-lines-last text at end e h f = let l = length-drop at text in runs-out-first (drop at text) (omega arith) (omega arith)
+pub lines-last : (t : List ℕ) → 0 < length t → line_length t ≡ length t → lines_of t ≡ unended ∷ []
+lines-last = runs-out-first
 
 -- where characters are left there is a line
-some-line : (t : List ℕ) → 0 < length t → 1 ≤ length (lines_of t)
-some-line t p =
+pub lines-some : (t : List ℕ) → 0 < length t → 1 ≤ length (lines_of t)
+lines-some t p =
     let l = length-le t in
     cases (ltb (line_length t) (length t))
     (λ e. rw (ends [] t (ltb-true (line_length t) (length t) e)) (omega arith))
     (λ e. let g = ltb-false (line_length t) (length t) e in let q : line_length t ≡ length t = omega arith in rw (runs-out-first t p q) (omega arith))
 
-pub lines-some : (text : List ℕ) (at : ℕ) → at < length text → 1 ≤ length (lines_of (drop at text))
-lines-some text at h = let l = length-drop at text in some-line (drop at text) (omega arith)
+-- the lines that are left
+pub last-line : (t : List ℕ) → line_length t ≡ length t → length (lines_of t) ≤ 1
+last-line t e =
+    cases (ltb 0 (length t))
+    (λ p. rw (lines-last t (ltb-true 0 (length t) p) e) (omega arith))
+    (λ p. let g = ltb-false 0 (length t) p in rw (lines_none t (omega arith)) (omega arith))
+
+-- behind so many lines: is there one more?
+pub rest-more : (t : List ℕ) (limit n : ℕ) → n ≡ limit + length (lines_of t) → not (nat_eq (length t) 0) ≡ ltb limit n
+rest-more [] limit n e = let z = ap length (lines_none [] refl) in sym (le-ltb limit n (omega arith))
+rest-more (c ∷ cs) limit n e =
+    let s = lines-some (c ∷ cs) (omega arith) in
+    rw (ne_eqb (suc (length cs)) 0 (λ q. omega arith)) (sym (lt-ltb limit n (omega arith)))
+
+-- what the first line feed's place, or that there is none, says of the first line
+abbrev EndsAt : List ℕ → Option ℕ → Type 0
+EndsAt text (Some n) = (n ≡ line_length text) × (n < length text)
+EndsAt text None = line_length text ≡ length text
+
+pub ends-at : (t : List ℕ) (r : Option ℕ) → r ≡ position (λ c. nat_eq c line_feed) t → EndsAt t r
+ends-at t r f =
+    let l = length-le t in
+    let e = length-position t in
+    rw f (cases (ltb (line_length t) (length t))
+    (λ p. rw (e, p) (refl, ltb-true (line_length t) (length t) p))
+    (λ p. let g = ltb-false (line_length t) (length t) p in rw (e, p) (omega arith)))

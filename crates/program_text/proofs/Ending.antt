@@ -1,30 +1,23 @@
 -- Where the line of a frame ends: at a line feed that only whole words stand before, so that its digits say that there is none among them.
-use mathlib.Core.Logic.{◌⊎◌, inl, inr}
+use Rattle.std.specs.Prelude.{Option, Some, None}
 use mathlib.Core.Path.{◌≡◌, refl, sym, ap, ◌∙◌, subst}
 use mathlib.Core.List.{List, [], ◌∷◌, ◌++◌}
-use mathlib.Core.Option.{Option, none, some}
-use Prim.Native.Nat.{ℕ, zero, suc, ◌+◌, ◌*◌, ◌-◌, ◌/◌, ◌%◌, ◌≤◌, ◌<◌}
+use Prim.Native.Nat.{ℕ, zero, suc, ◌+◌, ◌*◌, ◌/◌, ◌%◌, ◌≤◌, ◌<◌}
 use native.Mathlib.Nat.{not-suc-le-zero, le_of_suc-le-suc}
 use native.Mathlib.Omega.{arith}
-use lib.Dec.{eqb, leb, ltb}
-use lib.ListN.{length, take, drop, get_or, length-drop, take-append-drop}
-use lib.Seq.{get_or-drop}
-use borrow.Author.Tests.{eq-eqb, ne_eqb, eqb-true, leb-true, leb-false, ltb-true, ltb-false}
-use Rattle.rules.specs.declared.HexWord.{HexWord}
-use Rattle.rules.specs.declared.HexWord.TheVariants.{Word, NotHex}
-use Rattle.rules.specs.declared.Frame.{Frame}
-use Rattle.rules.specs.declared.Frame.TheVariants.{Holds, Malformed}
+use lib.Dec.{eqb, ltb}
+use lib.ListN.{length, take, drop, get_or, take-append-drop}
+use lib.Seq.{length-take-le}
+use borrow.Author.Tests.{eq-eqb, ne_eqb, eqb-true, ltb-true, ltb-false}
 use Rattle.rules.specs.declared.Instruction.{Instruction}
 use Rattle.rules.specs.Frames.{value_count, exact_frame_of}
 use Rattle.rules.specs.Hexadecimal.{digit_of, on_digit, digits_of, word_of}
 use Rattle.rules.specs.Text.{ended, unended, line_feed, cons_word, joined_words, frame_of_words, frame_of_line, lines_of}
 use Rattle.frames.proofs.Cases.{cases}
 use Rattle.program.proofs.Frames.{value-count-le}
-use Rattle.program_text.specs.TextLines.{line_length, FrameEnd, FrameRead, FrameHere, MalformedHere, ReadsLine, ReadsFrame}
-use Rattle.program_text.specs.declared.lines.Line.{Line}
-use Rattle.program_text.specs.declared.lines.Line.TheVariants.{Words}
+use Rattle.program_text.specs.TextLines.{line_length, WordsBefore, FindsWords, FrameRead, FrameHere, MalformedHere, ReadsLine, ReadsFrame}
 use Rattle.program_text.proofs.Breaking.{length-le, lines_next, lines-last}
-use Rattle.program_text.proofs.Framing.{joined-take, joined_length, line-length}
+use Rattle.program_text.proofs.Framing.{joined-take, joined_length}
 
 -- A line's length and its line feed
 
@@ -42,110 +35,42 @@ before-feed (c ∷ cs) (suc m) h e =
     let l = before-feed cs m (le_of_suc-le-suc h) e in
     cases (eqb c line_feed) (λ f. rw f (omega arith)) (λ f. rw f (omega arith))
 
-module _ (text : List ℕ) (at m : ℕ) (inside : at + m < length text) where
-  feed-at : line_length (drop at text) ≡ m → get_or text (at + m) 0 ≡ line_feed
-  feed-at e =
-      let l = length-drop at text in
-      sym (get_or-drop at text m 0) ∙ subst (λ (k : ℕ). get_or (drop at text) k 0 ≡ line_feed) e (feed-there (drop at text) (omega arith))
-
-  feed-bounds : get_or text (at + m) 0 ≡ line_feed → line_length (drop at text) ≤ m
-  feed-bounds e = let l = length-drop at text in before-feed (drop at text) m (omega arith) (get_or-drop at text m 0 ∙ e)
-
--- What the loop keeps: at 16, 32, .. characters from the start, up to `end`, there is no line feed
-
-pub record Looked (text : List ℕ) (at end left : ℕ) : Type 0 where
-  pub few : left ≤ 4
-  pub place : end + 16 * left ≡ at + 64
-  pub inside : end ≤ length text
-  pub none : (n : ℕ) → 1 ≤ n → at + 16 * n ≤ end → get_or text (at + 16 * n) 0 ≡ line_feed → ⊥
-
-pub looked-start : (text : List ℕ) (at : ℕ) → at ≤ length text → Looked text at at 4
-looked-start text at h = record { few = omega arith; place = omega arith; inside = h; none = λ n a b e. absurd (omega arith) }
-
-module _ {text : List ℕ} {at end left : ℕ} (k : Looked text at end left) where
-  pub looked-next : 0 < left → end + 16 < length text → (get_or text (end + 16) 0 ≡ line_feed → ⊥) → Looked text at (end + 16) (left - 1)
-  looked-next p h other =
-      let few = k.few in
-      let place = k.place in
-      record {
-        few = omega arith;
-        place = omega arith;
-        inside = omega arith;
-        none = λ n a b e.
-            cases (leb (at + 16 * n) end)
-            (λ t. k.none n a (leb-true (at + 16 * n) end t) e)
-            (λ t.
-            let g = leb-false (at + 16 * n) end t in
-            let q : at + 16 * n ≡ end + 16 = omega arith in
-            other (ap (λ (i : ℕ). get_or text i 0) (sym q) ∙ e));
-      }
-
-  pub no_end : ((n : ℕ) → n ≤ 4 → at + 16 * n < length text → at + 16 * n ≤ end) → FrameEnd text at (length text)
-  no_end all =
-      let place = k.place in
-      let few = k.few in
-      let inside = k.inside in
-      record {
-        order = omega arith;
-        inside = omega arith;
-        whole = λ h. absurd (omega arith);
-        feed = λ h. absurd (omega arith);
-        frame = λ n a b e h. absurd (k.none n a (all n b h) (feed-at text at (16 * n) h e));
-      }
-
-  pub end-found : 0 < left → end + 16 < length text → get_or text (end + 16) 0 ≡ line_feed → FrameEnd text at (end + 16)
-  end-found p h e =
-      let place = k.place in
-      let few = k.few in
-      record {
-        order = omega arith;
-        inside = omega arith;
-        whole = λ _. record { words = 5 - left; least = omega arith; most = omega arith; digits = omega arith };
-        feed = λ _. e;
-        frame = λ n a b f g.
-            let m : at + (end + 16 - at) ≡ end + 16 = omega arith in
-            let l = feed-bounds text at (end + 16 - at) (omega arith) (ap (λ (i : ℕ). get_or text i 0) m ∙ e) in
-            cases (leb (at + 16 * n) end)
-            (λ t. absurd (k.none n a (leb-true (at + 16 * n) end t) (feed-at text at (16 * n) g f)))
-            (λ t. let r = leb-false (at + 16 * n) end t in omega arith);
-      }
-
 -- No line feed among digits
 
-digit-other : (c d : ℕ) → digit_of c ≡ Word d → c ≡ line_feed → ⊥
+digit-other : (c d : ℕ) → digit_of c ≡ Some d → c ≡ line_feed → ⊥
 unfolding digit_of
-digit-other c d e f = let g : NotHex ≡ Word d = rw f at e in let z : ◌≡◌ {A = ℕ} 0 1 = cc in omega arith
+digit-other c d e f = let g : ◌≡◌ {A = Option ℕ} None (Some d) = rw f at e in let z : ◌≡◌ {A = ℕ} 0 1 = cc in omega arith
 
-digits-pass : (cs rest : List ℕ) (n v : ℕ) → digits_of n cs ≡ Word v → line_length (cs ++ rest) ≡ length cs + line_length rest
+digits-pass : (cs rest : List ℕ) (n v : ℕ) → digits_of n cs ≡ Some v → line_length (cs ++ rest) ≡ length cs + line_length rest
 unfolding digits_of
 digits-pass [] rest n v e = omega arith
 digits-pass (c ∷ cs) rest n v e = go (λ m. digits-pass cs rest m v) (digit_of c) refl e
   where
-    go : ((m : ℕ) → digits_of m cs ≡ Word v → line_length (cs ++ rest) ≡ length cs + line_length rest) → (w : HexWord) → digit_of c ≡ w
-        → on_digit w (λ d. digits_of (n * 16 + d) cs) ≡ Word v → line_length ((c ∷ cs) ++ rest) ≡ suc (length cs) + line_length rest
-    go ih NotHex f e = let z : ◌≡◌ {A = ℕ} 0 1 = cc in absurd (omega arith)
-    go ih (Word d) f e = rw (ne_eqb c line_feed (digit-other c d f)) (omega (arith, ih (n * 16 + d) e))
+    go : ((m : ℕ) → digits_of m cs ≡ Some v → line_length (cs ++ rest) ≡ length cs + line_length rest) → (w : Option ℕ) → digit_of c ≡ w
+        → on_digit w (λ d. digits_of (n * 16 + d) cs) ≡ Some v → line_length ((c ∷ cs) ++ rest) ≡ suc (length cs) + line_length rest
+    go ih None f e = let z : ◌≡◌ {A = ℕ} 0 1 = cc in absurd (omega arith)
+    go ih (Some d) f e = rw (ne_eqb c line_feed (digit-other c d f)) (omega (arith, ih (n * 16 + d) e))
 
-word-pass : (t : List ℕ) (v : ℕ) → word_of (take 16 t) ≡ Word v → line_length t ≡ 16 + line_length (drop 16 t)
+word-pass : (t : List ℕ) (v : ℕ) → word_of (take 16 t) ≡ Some v → line_length t ≡ 16 + line_length (drop 16 t)
 unfolding word_of
 word-pass t v e =
     cases (eqb (length (take 16 t)) 16)
     (λ b.
     let n = eqb-true (length (take 16 t)) 16 b in
-    let d : digits_of 0 (take 16 t) ≡ Word v = rw b at e in
+    let d : digits_of 0 (take 16 t) ≡ Some v = rw b at e in
     ap line_length (sym (take-append-drop 16 t)) ∙ digits-pass (take 16 t) (drop 16 t) 0 v d ∙ ap (λ (k : ℕ). k + line_length (drop 16 t)) n)
-    (λ b. let f : NotHex ≡ Word v = rw b at e in let z : ◌≡◌ {A = ℕ} 0 1 = cc in absurd (omega arith))
+    (λ b. let f : ◌≡◌ {A = Option ℕ} None (Some v) = rw b at e in let z : ◌≡◌ {A = ℕ} 0 1 = cc in absurd (omega arith))
 
-words-pass : (n : ℕ) (t ws : List ℕ) → joined_words n t ≡ some ws → 16 * n ≤ line_length t
+words-pass : (n : ℕ) (t ws : List ℕ) → joined_words n t ≡ Some ws → 16 * n ≤ line_length t
 unfolding joined_words
 words-pass zero t ws e = omega arith
 words-pass (suc n) t ws e = go (words-pass n (drop 16 t)) (word_of (take 16 t)) (joined_words n (drop 16 t)) refl refl e
   where
-    go : ((vs : List ℕ) → joined_words n (drop 16 t) ≡ some vs → 16 * n ≤ line_length (drop 16 t)) → (w : HexWord) (r : Option (List ℕ))
-        → word_of (take 16 t) ≡ w → joined_words n (drop 16 t) ≡ r → cons_word w r ≡ some ws → 16 * suc n ≤ line_length t
-    go ih NotHex r f g e = let z : ◌≡◌ {A = ℕ} 0 1 = cc in absurd (omega arith)
-    go ih (Word v) none f g e = let z : ◌≡◌ {A = ℕ} 0 1 = cc in absurd (omega arith)
-    go ih (Word v) (some vs) f g e = omega (arith, ih vs g, word-pass t v f)
+    go : ((vs : List ℕ) → joined_words n (drop 16 t) ≡ Some vs → 16 * n ≤ line_length (drop 16 t)) → (w : Option ℕ) (r : Option (List ℕ))
+        → word_of (take 16 t) ≡ w → joined_words n (drop 16 t) ≡ r → cons_word w r ≡ Some ws → 16 * suc n ≤ line_length t
+    go ih None r f g e = let z : ◌≡◌ {A = ℕ} 0 1 = cc in absurd (omega arith)
+    go ih (Some v) None f g e = let z : ◌≡◌ {A = ℕ} 0 1 = cc in absurd (omega arith)
+    go ih (Some v) (Some vs) f g e = omega (arith, ih vs g, word-pass t v f)
 
 -- A frame's line: whole words, one to four
 
@@ -155,107 +80,118 @@ record FrameLine (l : List ℕ) : Type 0 where
   pub most : n ≤ 4
   pub whole : length l ≡ 16 * n
   pub ws : List ℕ
-  pub joined : joined_words n l ≡ some ws
+  pub joined : joined_words n l ≡ Some ws
 
-malformed-not : {A : Type 0} (i : Instruction) → Malformed ≡ Holds i → A
+malformed-not : {A : Type 0} (i : Instruction) → ◌≡◌ {A = Option Instruction} None (Some i) → A
 malformed-not i e = let z : ◌≡◌ {A = ℕ} 0 1 = cc in absurd (omega arith)
 
-exact-length : (ws : List ℕ) (i : Instruction) → exact_frame_of ws ≡ Holds i → length ws ≡ suc (value_count (get_or ws 0 0))
+exact-length : (ws : List ℕ) (i : Instruction) → exact_frame_of ws ≡ Some i → length ws ≡ suc (value_count (get_or ws 0 0))
 unfolding exact_frame_of
 exact-length ws i e =
     cases (eqb (length ws) (suc (value_count (get_or ws 0 0))))
     (λ t. eqb-true (length ws) (suc (value_count (get_or ws 0 0))) t)
     (λ t. malformed-not i (rw t at e))
 
-frame-line : (l : List ℕ) (i : Instruction) → frame_of_line (ended l) ≡ Holds i → FrameLine l
+frame-line : (l : List ℕ) (i : Instruction) → frame_of_line (ended l) ≡ Some i → FrameLine l
 unfolding frame_of_line
 frame-line l i e =
     cases (eqb (length l % 16) 0)
     (λ t.
     let m = eqb-true (length l % 16) 0 t in
-    let f : frame_of_words (joined_words (length l / 16) l) ≡ Holds i = rw t at e in
+    let f : frame_of_words (joined_words (length l / 16) l) ≡ Some i = rw t at e in
     go m (joined_words (length l / 16) l) refl f)
     (λ t. malformed-not i (rw t at e))
   where
-    go : length l % 16 ≡ 0 → (o : Option (List ℕ)) → joined_words (length l / 16) l ≡ o → frame_of_words o ≡ Holds i → FrameLine l
-    go m none j f = malformed-not i f
-    go m (some ws) j f =
+    go : length l % 16 ≡ 0 → (o : Option (List ℕ)) → joined_words (length l / 16) l ≡ o → frame_of_words o ≡ Some i → FrameLine l
+    go m None j f = malformed-not i f
+    go m (Some ws) j f =
         let d = joined_length (length l / 16) l ws j in
         let x = exact-length ws i f in
         let v = value-count-le (get_or ws 0 0) in
         record { n = length l / 16; least = omega arith; most = omega arith; whole = omega arith; ws = ws; joined = j }
 
--- The line at a place
+-- The first line of a text
 
-module _ (text : List ℕ) (at end : ℕ) (f : FrameEnd text at end) where
-  pub frame_here : {used count : ℕ} {before after : List ℕ} → end < length text → FrameRead (take (end - at) (drop at text)) used before after count
-      → FrameHere text at used before after count
-  frame_here {used} {count} {before} {after} h r =
-      let order = f.order in
-      let size = line-length text at end order f.inside in
-      let long = r.long in
-      let m : end - at ≡ 16 * count = omega arith in
-      let l = frame-line (take (end - at) (drop at text)) _ r.frame in
-      let whole = l.whole in
-      let joined = sym (joined-take l.n (end - at) (drop at text) (omega arith)) ∙ l.joined in
-      let there = words-pass l.n (drop at text) l.ws joined in
-      let e : at + (end - at) ≡ end = omega arith in
-      let here = feed-bounds text at (end - at) (omega arith) (ap (λ (i : ℕ). get_or text i 0) e ∙ f.feed h) in
-      record {
-        ends = omega arith;
-        inside = omega arith;
-        read = subst (λ (k : ℕ). FrameRead (take k (drop at text)) used before after count) m r;
-      }
+pub frame_here : {text before after : List ℕ} {n used count : ℕ} → WordsBefore text n → FrameRead (take (16 * n) text) used before after count
+    → FrameHere text used before after count
+frame_here {text} {before} {after} {n} {used} {count} w r =
+    let inside = w.inside in
+    let size = length-take-le (16 * n) text (omega arith) in
+    let long = r.long in
+    let m : n ≡ count = omega arith in
+    let l = frame-line (take (16 * n) text) _ r.frame in
+    let whole = l.whole in
+    let joined = sym (joined-take l.n (16 * n) text (omega arith)) ∙ l.joined in
+    let there = words-pass l.n text l.ws joined in
+    let here = before-feed text (16 * n) inside w.feed in
+    record {
+      ends = omega arith;
+      inside = omega arith;
+      read = subst (λ (k : ℕ). FrameRead (take (16 * k) text) used before after count) m r;
+    }
 
-  -- where the line ends, a frame's or not
-  abbrev stop : ℕ
-  stop = at + line_length (drop at text)
+-- what stands before the first line feed is a frame's where the words before a feed are
+abbrev frame_to : List ℕ → ℕ → Option Instruction
+frame_to text e = frame_of_line (ended (take e text))
 
-  abbrev frame_to : ℕ → Frame
-  frame_to e = frame_of_line (ended (take (e - at) (drop at text)))
+module _ (text : List ℕ) (h : line_length text < length text) (i : Instruction) (g : frame_to text (line_length text) ≡ Some i) where
+  first-line : FrameLine (take (line_length text) text)
+  first-line = frame-line (take (line_length text) text) i g
 
-  frame-stops : (i : Instruction) → stop < length text → frame_to stop ≡ Holds i → end ≡ stop
-  frame-stops i h g =
-      let l = frame-line (take (stop - at) (drop at text)) i g in
-      let size = line-length text at stop (omega arith) (omega arith) in
-      let whole = l.whole in
-      let q : end ≡ at + 16 * l.n = f.frame l.n l.least l.most (omega arith) (omega arith) in
-      omega arith
+  feed-behind : (k : ℕ) → line_length text ≡ 16 * k → get_or text (16 * k) 0 ≡ line_feed
+  feed-behind k e = subst (λ (m : ℕ). get_or text m 0 ≡ line_feed) e (feed-there text h)
 
-  no-frame : (end ≡ length text) ⊎ (frame_to end ≡ Malformed) → stop < length text → (i : Instruction) → frame_to stop ≡ Holds i → ⊥
-  no-frame (inl e) h i g = let q = frame-stops i h g in omega arith
-  no-frame (inr m) h i g = malformed-not i (sym m ∙ ap frame_to (frame-stops i h g) ∙ g)
+  nothing-found : FindsWords text None → ⊥
+  nothing-found none =
+      let size = length-take-le (line_length text) text (omega arith) in
+      let whole = first-line.whole in
+      none first-line.n first-line.least first-line.most (omega arith) (feed-behind first-line.n (omega arith))
 
-  pub malformed-here : at < length text → (end ≡ length text) ⊎ (frame_to end ≡ Malformed) → MalformedHere text at
-  unfolding frame_of_line
-  malformed-here h bad =
-      cases (ltb stop (length text))
-      (λ t.
-      let i = ltb-true stop (length text) t in
-      record {
-        line = ended (take (stop - at) (drop at text));
-        rest = lines_of (drop (stop + 1) text);
-        lines = lines_next text at stop refl i;
-        malformed = only (no-frame bad i) (frame_to stop) refl;
-      })
-      (λ t.
-      let g = ltb-false stop (length text) t in
-      let l = length-le (drop at text) in
-      let d = length-drop at text in
-      record { line = unended; rest = []; lines = lines-last text at stop refl h (omega arith); malformed = refl })
-    where
-      only : ((i : Instruction) → frame_to stop ≡ Holds i → ⊥) → (x : Frame) → frame_to stop ≡ x → frame_to stop ≡ Malformed
-      only never Malformed g = g
-      only never (Holds i) g = absurd (never i g)
+  found-there : {n : ℕ} → WordsBefore text n → frame_to text (16 * n) ≡ Some i
+  found-there {n} w =
+      let size = length-take-le (line_length text) text (omega arith) in
+      let whole = first-line.whole in
+      let least = first-line.least in
+      let here = before-feed text (16 * n) w.inside w.feed in
+      let e : line_length text ≡ 16 * n =
+      cases (ltb first-line.n n)
+      (λ t. absurd (w.first first-line.n least (ltb-true first-line.n n t) (feed-behind first-line.n (omega arith))))
+      (λ t. let f = ltb-false first-line.n n t in omega arith)
+      in
+      ap (frame_to text) (sym e) ∙ g
 
-  pub frame-or-malformed : (used : ℕ) (before after : List ℕ) → at < length text → end < length text → (r : Line)
-      → ReadsLine (take (end - at) (drop at text)) used before after r → ReadsFrame text at used before after r
-  frame-or-malformed used before after h i (Words count) q = frame_here i q
-  frame-or-malformed used before after h i Line.Malformed q = malformed-here h (inr q)
+malformed-line : (text : List ℕ) → 0 < length text → ((i : Instruction) → line_length text < length text → frame_to text (line_length text) ≡ Some i → ⊥) → MalformedHere text
+unfolding frame_of_line
+malformed-line text h never =
+    cases (ltb (line_length text) (length text))
+    (λ t.
+    let i = ltb-true (line_length text) (length text) t in
+    record {
+      line = ended (take (line_length text) text);
+      rest = lines_of (drop (line_length text + 1) text);
+      lines = lines_next text i;
+      malformed = only (λ j g. never j i g) (frame_to text (line_length text)) refl;
+    })
+    (λ t.
+    let g = ltb-false (line_length text) (length text) t in
+    let l = length-le text in
+    record { line = unended; rest = []; lines = lines-last text h (omega arith); malformed = refl })
+  where
+    only : ((i : Instruction) → frame_to text (line_length text) ≡ Some i → ⊥) → (x : Option Instruction) → frame_to text (line_length text) ≡ x → frame_to text (line_length text) ≡ None
+    only never None g = g
+    only never (Some i) g = absurd (never i g)
 
-pub line-here : {text before after : List ℕ} {at used count : ℕ} → FrameHere text at used before after count
-    → lines_of (drop at text) ≡ ended (take (16 * count) (drop at text)) ∷ lines_of (drop (at + 16 * count + 1) text)
-line-here {text} {before} {after} {at} {used} {count} h =
+pub malformed-unfound : (text : List ℕ) → 0 < length text → FindsWords text None → MalformedHere text
+malformed-unfound text h none = malformed-line text h (λ i l g. nothing-found text l i g none)
+
+pub frame-or-malformed : {text : List ℕ} {n : ℕ} (before after : List ℕ) (used : ℕ) → 0 < length text → WordsBefore text n → (r : Option ℕ)
+    → ReadsLine (take (16 * n) text) used before after r → ReadsFrame text used before after r
+frame-or-malformed {text} before after used h w (Some count) q = frame_here w q
+frame-or-malformed {text} before after used h w None q = malformed-line text h (λ i l g. malformed-not i (sym q ∙ found-there text l i g w))
+
+pub line-here : {text before after : List ℕ} {used count : ℕ} → FrameHere text used before after count
+    → lines_of text ≡ ended (take (16 * count) text) ∷ lines_of (drop (16 * count + 1) text)
+line-here {text} {before} {after} {used} {count} h =
+    let inside = h.inside in
     let e = h.ends in
-    let m : at + 16 * count - at ≡ 16 * count = omega arith in
-    lines_next text at (at + 16 * count) (omega arith) h.inside ∙ ap (λ (k : ℕ). ended (take k (drop at text)) ∷ lines_of (drop (at + 16 * count + 1) text)) m
+    lines_next text (omega arith) ∙ ap (λ (k : ℕ). ended (take k text) ∷ lines_of (drop (k + 1) text)) e

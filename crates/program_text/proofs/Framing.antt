@@ -1,28 +1,26 @@
--- Joined words at the start of a text, and the line between two of its places.
+-- Joined words at the start of a text.
+use Rattle.std.specs.Prelude.{Option, Some, None}
 use mathlib.Core.Path.{◌≡◌, refl, sym, ap, ◌∙◌}
 use mathlib.Core.List.{List, [], ◌∷◌}
-use mathlib.Core.Option.{Option, none, some}
 use Prim.Native.Nat.{ℕ, zero, suc, ◌+◌, ◌*◌, ◌-◌, ◌≤◌}
 use native.Mathlib.Nat.{zero-add, suc-add}
 use native.Mathlib.Omega.{arith}
-use lib.ListN.{length, take, drop, length-drop}
-use lib.Seq.{take-take, take-nil, length-take-le}
-use Rattle.rules.specs.declared.HexWord.{HexWord}
-use Rattle.rules.specs.declared.HexWord.TheVariants.{Word, NotHex}
+use lib.ListN.{length, take, drop}
+use lib.Seq.{take-take, take-nil}
 use Rattle.rules.specs.Hexadecimal.{word_of}
 use Rattle.rules.specs.Text.{cons_word, joined_words}
 
 -- Joined words
 
-never : (ws : List ℕ) → none ≡ some ws → ⊥
+never : (ws : List ℕ) → None ≡ Some ws → ⊥
 never ws e = let z : ◌≡◌ {A = ℕ} 0 1 = cc in omega arith
 
-cons-length : (h : HexWord) (r : Option (List ℕ)) (n : ℕ) → ((vs : List ℕ) → r ≡ some vs → length vs ≡ n) → (ws : List ℕ) → cons_word h r ≡ some ws → length ws ≡ suc n
-cons-length NotHex r n k ws e = absurd (never ws e)
-cons-length (Word v) none n k ws e = absurd (never ws e)
-cons-length (Word v) (some vs) n k ws e = let f : v ∷ vs ≡ ws = cc in ap length (sym f) ∙ ap suc (k vs refl)
+cons-length : (h : Option ℕ) (r : Option (List ℕ)) (n : ℕ) → ((vs : List ℕ) → r ≡ Some vs → length vs ≡ n) → (ws : List ℕ) → cons_word h r ≡ Some ws → length ws ≡ suc n
+cons-length None r n k ws e = absurd (never ws e)
+cons-length (Some v) None n k ws e = absurd (never ws e)
+cons-length (Some v) (Some vs) n k ws e = let f : v ∷ vs ≡ ws = cc in ap length (sym f) ∙ ap suc (k vs refl)
 
-pub joined_length : (n : ℕ) (l ws : List ℕ) → joined_words n l ≡ some ws → length ws ≡ n
+pub joined_length : (n : ℕ) (l ws : List ℕ) → joined_words n l ≡ Some ws → length ws ≡ n
 unfolding joined_words
 joined_length zero l ws e = let f : [] ≡ ws = cc in ap length (sym f)
 joined_length (suc n) l ws e = cons-length (word_of (take 16 l)) (joined_words n (drop 16 l)) n (joined_length n (drop 16 l)) ws e
@@ -43,12 +41,3 @@ joined-take (suc n) m t h =
     (ap (λ (k : ℕ). joined_words n (drop 16 (take k t))) e
     ∙ ap (joined_words n) (drop-take 16 (m - 16) t)
     ∙ joined-take n (m - 16) (drop 16 t) (omega arith)))
-
--- The line between two places of a text
-
-module _ (text : List ℕ) (at end : ℕ) (order : at ≤ end) (inside : end ≤ length text) where
-  abbrev pub line : List ℕ
-  line = take (end - at) (drop at text)
-
-  pub line-length : length line ≡ end - at
-  line-length = length-take-le (end - at) (drop at text) (let l = length-drop at text in omega arith)

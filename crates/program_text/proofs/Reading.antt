@@ -1,33 +1,33 @@
 -- Reading a line of one to four words: its words decide, and how many the first of them asks for.
+use Rattle.std.specs.Prelude.{Option, Some, None}
 use mathlib.Core.Path.{◌≡◌, refl, sym, ap, ◌∙◌}
 use mathlib.Core.Bool.{Bool, true, false}
 use mathlib.Core.List.{List, [], ◌∷◌}
-use mathlib.Core.Option.{none, some}
-use Prim.Native.Nat.{ℕ, suc, ◌*◌, ◌-◌, ◌/◌, ◌%◌, ◌≤◌}
+use Prim.Native.Nat.{ℕ, suc, ◌*◌, ◌/◌, ◌%◌, ◌≤◌}
 use native.Mathlib.Nat.{add-zero}
 use native.Mathlib.Omega.{arith}
 use lib.Dec.{eqb}
 use lib.ListN.{length, get_or, drop}
 use lib.Seq.{get_or-take, get_or-drop}
 use borrow.Author.Tests.{eq-eqb, ne_eqb, le-leb}
-use Rattle.rules.specs.declared.Frame.TheVariants.{Holds, Malformed}
+use Rattle.rules.specs.declared.Instruction.{Instruction}
 use Rattle.rules.specs.Numbers.{choose}
 use Rattle.rules.specs.Frames.{first_word_fits, value_count, frame_fits, frame_of, exact_frame_of, instruction_of}
 use Rattle.rules.specs.Text.{ended, joined_words, frame_of_words, frame_of_line}
 use Rattle.frames.proofs.Cases.{cases}
 use Rattle.program_text.specs.TextLines.{part, ReadsWords, FrameRead}
-use Rattle.program_text.proofs.Framing.{joined-take, joined_length, line, line-length}
+use Rattle.program_text.proofs.Framing.{joined_length}
 
 -- words whose first one does not fit
 unfit : (ws : List ℕ) → first_word_fits (get_or ws 0 0) ≡ false → frame_fits ws ≡ false
 unfit [] e = refl
 unfit (w ∷ ws) e = rw e
 
-exact-unfit : (ws : List ℕ) → first_word_fits (get_or ws 0 0) ≡ false → exact_frame_of ws ≡ Malformed
+exact-unfit : (ws : List ℕ) → first_word_fits (get_or ws 0 0) ≡ false → exact_frame_of ws ≡ None
 unfolding exact_frame_of frame_of
 exact-unfit ws e = rw (unfit ws e) (same (eqb (length ws) (suc (value_count (get_or ws 0 0)))))
   where
-    same : (b : Bool) → choose b Malformed Malformed ≡ Malformed
+    same : (b : Bool) → ◌≡◌ {A = Option Instruction} (choose b None None) None
     same true = refl
     same false = refl
 
@@ -39,13 +39,13 @@ module _ (l : List ℕ) (count : ℕ) (size : length l ≡ 16 * count) where
       let d : length l / 16 ≡ count = omega arith in
       rw (eq-eqb (length l % 16) 0 m, d)
 
-  pub line-broken : joined_words count l ≡ none → frame_of_line (ended l) ≡ Malformed
+  pub line-broken : joined_words count l ≡ None → frame_of_line (ended l) ≡ None
   line-broken e = line-words ∙ ap frame_of_words e
 
   -- r is how many words the first one asks for, 0 where it does not fit
-  module _ (least : 1 ≤ count) (ws : List ℕ) (joined : joined_words count l ≡ some ws) (r : ℕ)
+  module _ (least : 1 ≤ count) (ws : List ℕ) (joined : joined_words count l ≡ Some ws) (r : ℕ)
       (asked : r ≡ choose (first_word_fits (get_or ws 0 0)) (suc (value_count (get_or ws 0 0))) 0) where
-    pub line_other : (r ≡ count → ⊥) → frame_of_line (ended l) ≡ Malformed
+    pub line_other : (r ≡ count → ⊥) → frame_of_line (ended l) ≡ None
     unfolding exact_frame_of
     line_other n =
         line-words
@@ -58,7 +58,7 @@ module _ (l : List ℕ) (count : ℕ) (size : length l ≡ 16 * count) where
         (λ t. exact-unfit ws t)
 
     pub record LineHolds : Type 0 where
-      pub frame : frame_of_line (ended l) ≡ Holds (instruction_of ws)
+      pub frame : frame_of_line (ended l) ≡ Some (instruction_of ws)
       pub fits : frame_fits ws ≡ true
       pub words : count ≡ suc (value_count (get_or ws 0 0))
 
@@ -82,19 +82,13 @@ module _ (l : List ℕ) (count : ℕ) (size : length l ≡ 16 * count) where
         fit_of [] d f = absurd (omega arith)
         fit_of (v ∷ vs) d f = rw (f, le-leb (value_count v) (length vs) (omega arith))
 
--- The same of the line between two places, whose words were read into a buffer
+-- The same of a line whose words were read into a buffer
 
-module _ (text before after : List ℕ) (at end used count : ℕ) (order : at ≤ end) (inside : end ≤ length text) (size : end - at ≡ 16 * count) (least : 1 ≤ count) where
-  whole : length (line text at end order inside) ≡ 16 * count
-  whole = line-length text at end order inside ∙ size
+module _ (l before after : List ℕ) (used count : ℕ) (size : length l ≡ 16 * count) (least : 1 ≤ count) where
+  pub read-broken : ReadsWords l count used before after None → frame_of_line (ended l) ≡ None
+  read-broken r = line-broken l count size r
 
-  all : joined_words count (line text at end order inside) ≡ joined_words count (drop at text)
-  all = joined-take count (end - at) (drop at text) (omega arith)
-
-  pub read-broken : ReadsWords (drop at text) count used before after false → frame_of_line (ended (line text at end order inside)) ≡ Malformed
-  read-broken r = line-broken (line text at end order inside) count whole (all ∙ r)
-
-  module _ (r : ReadsWords (drop at text) count used before after true) (asks : ℕ)
+  module _ (r : ReadsWords l count used before after (Some tt)) (asks : ℕ)
       (asked : asks ≡ choose (first_word_fits (get_or after used 0)) (suc (value_count (get_or after used 0))) 0) where
     first : get_or after used 0 ≡ get_or (part used count after) 0 0
     first = sym (get_or-take count (drop used after) 0 0 (omega arith) ∙ get_or-drop used after 0 0 ∙ ap (λ (i : ℕ). get_or after i 0) (add-zero used))
@@ -102,18 +96,18 @@ module _ (text before after : List ℕ) (at end used count : ℕ) (order : at �
     asked-first : asks ≡ choose (first_word_fits (get_or (part used count after) 0 0)) (suc (value_count (get_or (part used count after) 0 0))) 0
     asked-first = asked ∙ ap (λ (w : ℕ). choose (first_word_fits w) (suc (value_count w)) 0) first
 
-    pub read-other : (asks ≡ count → ⊥) → frame_of_line (ended (line text at end order inside)) ≡ Malformed
-    read-other = line_other (line text at end order inside) count whole least (part used count after) (all ∙ r.0) asks asked-first
+    pub read-other : (asks ≡ count → ⊥) → frame_of_line (ended l) ≡ None
+    read-other = line_other l count size least (part used count after) r.0 asks asked-first
 
-    pub read_whole : asks ≡ count → FrameRead (line text at end order inside) used before after count
+    pub read_whole : asks ≡ count → FrameRead l used before after count
     read_whole e =
-        let h = line-holds (line text at end order inside) count whole least (part used count after) (all ∙ r.0) asks asked-first e in
+        let h = line-holds l count size least (part used count after) r.0 asks asked-first e in
         record {
           frame = h.frame;
           fits = h.fits;
           words = h.words;
-          whole = joined_length count (drop at text) (part used count after) r.0;
-          long = whole;
+          whole = joined_length count l (part used count after) r.0;
+          long = size;
           kept = r.1;
           size = r.2;
         }

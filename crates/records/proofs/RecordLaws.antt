@@ -6,10 +6,9 @@ use native.Mathlib.Omega.{arith}
 use lib.ListN.{length, get_or, take, drop}
 use lib.Seq.{drop-cons, take_all}
 use Rattle.rules.specs.declared.Machine.{Machine}
-use Rattle.rules.specs.declared.Answer.{Answer}
 use Rattle.rules.specs.declared.Refusal.{Refusal}
 use Rattle.rules.specs.declared.Refusal.TheVariants as R
-use Rattle.rules.specs.Answers.{Meaning, refusal_meaning, meaning}
+use Rattle.rules.specs.Answers.{Meaning, refusal_meaning}
 use Rattle.report.specs.declared.label.Label.{Label}
 use Rattle.report.specs.declared.label.Label.TheVariants as L
 use Rattle.report.specs.ReportLines.{Labels, outcome-label, refusal-label, frame-label}
@@ -68,30 +67,26 @@ pub machine-read : (m : Machine) → length m.registers ≡ 10 → length m.stor
 unfolding machine_of machine_record
 machine-read m h k = sym (ap (λ (m : Machine). machine_of (machine_record m)) (arrays-listed m h k)) ∙ arrays-listed m h k
 
--- the same answer has the same callee
-pub same_callee : {a known : Answer} → a ≡ known → callee_of (meaning known) ≡ callee_of (meaning a)
-same_callee e = sym (ap (λ (a : Answer). callee_of (meaning a)) e)
-
 -- no refusal has a callee
-pub no-callee : (f : Refusal) → callee_of (refusal_meaning f) ≡ 0 ∷ 0 ∷ 0 ∷ 0 ∷ []
+pub no_callee : (f : Refusal) → callee_of (refusal_meaning f) ≡ 0 ∷ 0 ∷ 0 ∷ 0 ∷ []
 unfolding callee_of refusal_meaning
-no-callee R.BadLength = refl
-no-callee (R.MalformedFrame n) = refl
-no-callee R.BadState = refl
-no-callee R.NoInstruction = refl
-no-callee R.UncoveredOpcode = refl
-no-callee R.BadOperand = refl
-no-callee R.NotInField = refl
-no-callee R.NotSmall = refl
-no-callee R.AssertFailed = refl
-no-callee R.RangeCheckFailed = refl
-no-callee R.CellAbsent = refl
-no-callee R.SpanPastRegion = refl
-no-callee R.TapeFault = refl
-no-callee R.StoreFault = refl
-no-callee R.ProphetStore = refl
-no-callee R.NoCapacity = refl
-no-callee R.ClockEnd = refl
+no_callee R.BadLength = refl
+no_callee (R.MalformedFrame n) = refl
+no_callee R.BadState = refl
+no_callee R.NoInstruction = refl
+no_callee R.UncoveredOpcode = refl
+no_callee R.BadOperand = refl
+no_callee R.NotInField = refl
+no_callee R.NotSmall = refl
+no_callee R.AssertFailed = refl
+no_callee R.RangeCheckFailed = refl
+no_callee R.CellAbsent = refl
+no_callee R.SpanPastRegion = refl
+no_callee R.TapeFault = refl
+no_callee R.StoreFault = refl
+no_callee R.ProphetStore = refl
+no_callee R.NoCapacity = refl
+no_callee R.ClockEnd = refl
 
 -- the record by an answer's label and callee
 abbrev record_of : Label → ℕ → List ℕ → List ℕ

@@ -1,24 +1,23 @@
 // The records for C: a machine as 20 words, a guarded run's extras as 1, an answer as 8. specs/Records.antt has what each word is,
 // and that nothing is lost in a record (`RecordsRead`).
 //
-// Internal, for crate `ola`, and for any arguments.
+// Internal, for crate `ola`, and for any arguments. They are functions and no impls of From: Machine and Marks are types of crate
+// `rules`, and an impl of std's trait has to stand with its type.
 #![tactic(auto)]
 
 ghost use Rattle.std.specs.Prelude.{◌≡◌};
 ghost use Rattle.rules.specs.Answers.{meaning};
 ghost use Rattle.records.specs.Records.{machine_of, machine_record, marks_of, marks_record, callee_of, answer_record};
 
-use report::label::{Label, label_of};
+use report::label::Label;
 use rules::{Answer, Machine, Marks};
 
+#[tactic(auto, unfolding(crate::specs::Records::machine_of))]
 pub fn machine_of(words: [u64; 20]) -> Machine
     ensures { result ≡ machine_of words }
 {
     Machine {
-        registers: [
-            words[0], words[1], words[2], words[3], words[4], words[5], words[6], words[7],
-            words[8], words[9],
-        ],
+        registers: *words.first_chunk().unwrap(),
         pc: words[10],
         clk: words[11],
         psp: words[12],
@@ -58,6 +57,7 @@ pub fn machine_record(machine: Machine) -> [u64; 20]
     ]
 }
 
+#[tactic(auto, unfolding(crate::specs::Records::marks_of))]
 pub fn marks_of(words: [u64; 1]) -> Marks
     ensures { result ≡ marks_of words }
 {
@@ -66,6 +66,7 @@ pub fn marks_of(words: [u64; 1]) -> Marks
     }
 }
 
+#[tactic(auto, unfolding(crate::specs::Records::marks_record))]
 pub fn marks_record(marks: Marks) -> [u64; 1]
     ensures { result ≡ marks_record marks }
 {
@@ -73,35 +74,26 @@ pub fn marks_record(marks: Marks) -> [u64; 1]
 }
 
 // The callee of e1 and e2; else zeros.
+#[tactic(auto, using(crate::proofs::RecordLaws::no_callee), unfolding(crate::specs::Records::callee_of, rules::specs::Answers::meaning))]
 fn callee_of(answer: Answer) -> [u64; 4]
     ensures { result ≡ callee_of (meaning answer) }
 {
     match answer {
-        Answer::Ended => [0; 4],
-        Answer::Calling(a, b, c, d) => [a, b, c, d],
-        Answer::DelegateCalling(a, b, c, d) => [a, b, c, d],
-        Answer::Paused => [0; 4],
-        Answer::Refused(_) => [0; 4],
-        Answer::MarkedSink => [0; 4],
-        Answer::ShortBuffer => [0; 4],
+        Answer::Calling(a, b, c, d) | Answer::DelegateCalling(a, b, c, d) => [a, b, c, d],
+        Answer::Ended
+        | Answer::Paused
+        | Answer::Refused(_)
+        | Answer::MarkedSink
+        | Answer::ShortBuffer => [0; 4],
     }
 }
 
 pub fn answer_record(answer: Answer, steps: u64) -> [u64; 8]
     ensures { result ≡ answer_record (meaning answer) steps }
 {
-    let callee = callee_of(answer);
-    match label_of(answer) {
-        Label::Outcome(number) => [
-            0,
-            number as u64,
-            steps,
-            0,
-            callee[0],
-            callee[1],
-            callee[2],
-            callee[3],
-        ],
+    let [a, b, c, d] = callee_of(answer);
+    match Label::from(answer) {
+        Label::Outcome(number) => [0, number as u64, steps, 0, a, b, c, d],
         Label::Refusal(number) => [1, number as u64, steps, 0, 0, 0, 0, 0],
         Label::Malformed(frame) => [1, 2, steps, frame, 0, 0, 0, 0],
     }

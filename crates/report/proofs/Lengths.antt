@@ -33,7 +33,7 @@ decimal-length n = go (ltb n 10)
     go true = omega arith
     go false = omega arith
 
-count_most : (n v : ℕ) → digit_count n v ≤ suc n
+pub count_most : (n v : ℕ) → digit_count n v ≤ suc n
 unfolding digit_count
 count_most zero v = omega arith
 count_most (suc n) v = go (count_most n (v / 16)) (ltb v 16)
@@ -46,8 +46,10 @@ pub hex-length : (v : ℕ) → length (shortest_hex v) ≤ 16
 unfolding shortest_hex
 hex-length v = omega (arith, low-length (digit_count 15 v) v, count_most 15 v)
 
-pub value-length : (v : ℕ) → length (value_line v) ≤ 17
-value-length v = omega (arith, hex-length v, length-append (shortest_hex v) (10 ∷ []))
+-- a value's line: its digits and the line feed
+pub value-count : (v : ℕ) → digit_count 15 v + 1 ≡ length (value_line v)
+unfolding shortest_hex
+value-count v = omega (arith, low-length (digit_count 15 v) v, length-append (shortest_hex v) (10 ∷ []))
 
 label-length : (label : Label) → length (label_text label) ≤ 17
 unfolding label_text

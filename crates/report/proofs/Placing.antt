@@ -1,12 +1,11 @@
 -- Characters placed in a buffer: none, one, those of a writer that looks for space, and the rest of a text of which some stand already.
+use Rattle.std.specs.Prelude.{Option, Some, None}
 use mathlib.Core.Path.{◌≡◌, refl, sym, ap, ◌∙◌, subst}
 use mathlib.Core.List.{List, [], ◌∷◌, ◌++◌}
 use Prim.Native.Nat.{ℕ, ◌+◌, ◌<◌, ◌≤◌}
 use native.Mathlib.Omega.{arith}
 use lib.ListN.{length, set, length-append}
 use borrow.Author.Tests.{le-leb}
-use Rattle.hexadecimal.specs.declared.Put.{Put}
-use Rattle.hexadecimal.specs.declared.Put.TheVariants.{Next, NoSpace}
 use Rattle.hexadecimal.specs.Writing.{Writes}
 use Rattle.hexadecimal.proofs.Buffers.{overlay-nil, overlay-snoc, overlay-append, overlay-length}
 use Rattle.report.specs.Placing.{Placed}
@@ -23,31 +22,33 @@ module _ (b : List ℕ) (at : ℕ) where
         written = ap (λ (k : ℕ). set b k c) (sym e) ∙ sym (overlay-nil (set b (at + 0) c) at) ∙ overlay-snoc b at [] c (omega arith);
       }
 
+pub ruleset placing = (placed-none, placed_one)
+
 pub placed-as : {xs ys b after : List ℕ} {at next : ℕ} → xs ≡ ys → Placed ys b at next after → Placed xs b at next after
 placed-as {b = b} {after = after} {at = at} {next = next} e = subst (λ (cs : List ℕ). Placed cs b at next after) (sym e)
 
-pub writes_as : {xs ys b after : List ℕ} {at : ℕ} {r : Put} → xs ≡ ys → Writes ys b at r after → Writes xs b at r after
+pub writes_as : {xs ys b after : List ℕ} {at : ℕ} {r : Option ℕ} → xs ≡ ys → Writes ys b at r after → Writes xs b at r after
 writes_as {b = b} {after = after} {at = at} {r = r} e = subst (λ (cs : List ℕ). Writes cs b at r after) (sym e)
 
 module _ {cs b after : List ℕ} {at : ℕ} (fits : at + length cs ≤ length b) where
   pub placed-length : {next : ℕ} → Placed cs b at next after → length after ≡ length b
   placed-length p = ap length p.written ∙ overlay-length b at cs fits
 
-  pub placed-writes : {next : ℕ} → Placed cs b at next after → Writes cs b at (Next next) after
+  pub placed-writes : {next : ℕ} → Placed cs b at next after → Writes cs b at (Some next) after
   placed-writes p =
       let e = le-leb (at + length cs) (length b) fits in
-      record { answer = rw e (ap Next p.ends); written = rw e p.written }
+      record { answer = rw e (ap Some p.ends); written = rw e p.written }
 
-  module _ {r : Put} (w : Writes cs b at r after) where
-    answered : r ≡ Next (at + length cs)
+  module _ {r : Option ℕ} (w : Writes cs b at r after) where
+    answered : r ≡ Some (at + length cs)
     answered = rw (le-leb (at + length cs) (length b) fits) at w.answer
 
-    pub placed-written : (next : ℕ) → r ≡ Next next → Placed cs b at next after
+    pub placed-written : (next : ℕ) → r ≡ Some next → Placed cs b at next after
     placed-written next e =
         let a = answered in
         record { ends = cc; written = rw (le-leb (at + length cs) (length b) fits) at w.written }
 
-    pub never-full : r ≡ NoSpace → ⊥
+    pub never-full : r ≡ None → ⊥
     never-full e = let a = answered in let z : ◌≡◌ {A = ℕ} 0 1 = cc in omega arith
 
 -- where `rest` is placed next, all of cs is

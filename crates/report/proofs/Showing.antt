@@ -48,3 +48,5 @@ labels-refusal {m} {n} e = subst (λ (m : Meaning). Labels m (L.Refusal n)) (sym
 
 pub labels-frame : {m : Meaning} {n : ℕ} → m ≡ refusal 2 (n ∷ []) → Labels m (L.Malformed n)
 labels-frame {m} {n} e = subst (λ (m : Meaning). Labels m (L.Malformed n)) (sym e) frame-label
+
+pub ruleset labels = (labels-outcome, labels-refusal, labels-frame)

@@ -1,5 +1,8 @@
 // The lines of a call. `put_lines` looks whether they fit; each other function that writes is handed a buffer in which its characters
 // fit, and answers the place after them.
+// By hand, and not by `write!` into the buffer: after one through a `&mut [u8]` nothing is known of what the buffer holds (tried with
+// `put_decimal`), and `Writes`, the contract of `print`, says all of it. A place and a buffer are no cursor with a `&mut` field: each
+// function would have to promise besides that the cursor keeps its buffer.
 ghost use Rattle.std.specs.Prelude.{◌≡◌, ◌+◌, ◌≤◌, leb, length};
 ghost use Rattle.rules.specs.Hexadecimal.{shortest_hex};
 ghost use Rattle.rules.specs.Solve.{decimal, spaced, value_lines};
@@ -9,17 +12,23 @@ ghost use Rattle.report.specs.ReportLines.{value_line, label_text, fields, frame
 
 use crate::kilosteps;
 use crate::label::Label;
-use hexadecimal::{Put, put_shortest};
+use hexadecimal::{digit_count, put_shortest};
 
-// A word in shortest hexadecimal. It fits, so that there is no other answer than the next place.
+// What the first line shows.
+#[derive(Clone, Copy)]
+pub(crate) struct FirstLine {
+    pub(crate) label: Label,
+    pub(crate) steps: u64,
+    pub(crate) pc: u64,
+    pub(crate) clk: u64,
+}
+
+// A word in shortest hexadecimal. It fits, so that there is a next place.
 fn put_hex(at: usize, v: u64, buffer: &mut [u8]) -> usize
     requires { at + length (shortest_hex v) ≤ length buffer.old }
     ensures { Placed (shortest_hex v) buffer.old at result buffer.new }
 {
-    match put_shortest(at, v, buffer) {
-        Put::Next(next) => next,
-        Put::NoSpace => at,
-    }
+    put_shortest(at, v, buffer).unwrap()
 }
 
 // A space and a word.
@@ -47,20 +56,10 @@ fn put_values(from: usize, values: &[u64], buffer: &mut [u8]) -> usize
     ensures { Placed (value_lines values.now) buffer.old from result buffer.new }
 {
     let mut at = from;
-    let mut i = 0;
-    while i < values.len() {
-        at = put_value(at, values[i], buffer);
-        i += 1;
+    for v in values {
+        at = put_value(at, *v, buffer);
     }
     at
-}
-
-// How long a value's line is, found by writing it into a buffer of its own.
-fn value_length(v: u64) -> usize
-    ensures { result ≡ length (value_line v) }
-{
-    let mut scratch = [0u8; 17];
-    put_value(0, v, &mut scratch)
 }
 
 // Do the lines of the values fit in so many places? Their lengths are taken off one by one, since a sum might not fit in a word.
@@ -68,14 +67,11 @@ fn values_fit(values: &[u64], places: usize) -> bool
     ensures { result ≡ leb (length (value_lines values.now)) places }
 {
     let mut left = places;
-    let mut i = 0;
-    while i < values.len() {
-        let n = value_length(values[i]);
-        if left < n {
+    for v in values {
+        let Some(others) = left.checked_sub(digit_count(*v) + 1) else {
             return false;
-        }
-        left = left - n;
-        i += 1;
+        };
+        left = others;
     }
     true
 }
@@ -121,55 +117,47 @@ fn put_fields(at: usize, steps: u64, pc: u64, clk: u64, buffer: &mut [u8]) -> us
 }
 
 // The frame that refusal 2 carries.
+#[tactic(auto, using(crate::proofs::Placing::placing), unfolding(crate::specs::ReportLines::frame_field))]
 fn put_frame(at: usize, label: Label, buffer: &mut [u8]) -> usize
     requires { at + length (frame_field label) ≤ length buffer.old }
     ensures { Placed (frame_field label) buffer.old at result buffer.new }
 {
     match label {
-        Label::Outcome(_) => at,
-        Label::Refusal(_) => at,
+        Label::Outcome(_) | Label::Refusal(_) => at,
         Label::Malformed(frame) => put_field(at, frame, buffer),
     }
 }
 
-// Label, fields, frame and line feed.
-fn put_first_line(label: Label, steps: u64, pc: u64, clk: u64, buffer: &mut [u8]) -> usize
-    requires { length (first_line label steps pc clk) ≤ length buffer.old }
-    ensures { Placed (first_line label steps pc clk) buffer.old 0 result buffer.new }
-{
-    let a = put_label(label, buffer);
-    let b = put_fields(a, steps, pc, clk, buffer);
-    let end = put_frame(b, label, buffer);
-    buffer[end] = b'\n';
-    end + 1
-}
+impl FirstLine {
+    // Label, fields, frame and line feed.
+    fn put(self, buffer: &mut [u8]) -> usize
+        requires { length (first_line self.label self.steps self.pc self.clk) ≤ length buffer.old }
+        ensures { Placed (first_line self.label self.steps self.pc self.clk) buffer.old 0 result buffer.new }
+    {
+        let a = put_label(self.label, buffer);
+        let b = put_fields(a, self.steps, self.pc, self.clk, buffer);
+        let end = put_frame(b, self.label, buffer);
+        buffer[end] = b'\n';
+        end + 1
+    }
 
-// How long the first line is, found by writing it into a buffer of its own.
-fn first_line_length(label: Label, steps: u64, pc: u64, clk: u64) -> usize
-    ensures { result ≡ length (first_line label steps pc clk) }
-{
-    let mut scratch = [0u8; 128];
-    put_first_line(label, steps, pc, clk, &mut scratch)
+    // How long it is, found by writing it into a buffer of its own.
+    fn length(self) -> usize
+        ensures { result ≡ length (first_line self.label self.steps self.pc self.clk) }
+    {
+        let mut scratch = [0u8; 128];
+        self.put(&mut scratch)
+    }
 }
 
 // Writes the first line and a line for each value from the buffer's start on. Nothing is written before all of it is known to fit.
-pub(crate) fn put_lines(
-    label: Label,
-    steps: u64,
-    pc: u64,
-    clk: u64,
-    values: &[u64],
-    buffer: &mut [u8],
-) -> Put
-    ensures { Writes (lines_from label steps pc clk values.now) buffer.old 0 result buffer.new }
+pub(crate) fn put_lines(first: FirstLine, values: &[u64], buffer: &mut [u8]) -> Option<usize>
+    ensures { Writes (lines_from first.label first.steps first.pc first.clk values.now) buffer.old 0 result buffer.new }
 {
-    let first = first_line_length(label, steps, pc, clk);
-    if buffer.len() < first {
-        return Put::NoSpace;
+    let others = buffer.len().checked_sub(first.length())?;
+    if !values_fit(values, others) {
+        return None;
     }
-    if !values_fit(values, buffer.len() - first) {
-        return Put::NoSpace;
-    }
-    let from = put_first_line(label, steps, pc, clk, buffer);
-    Put::Next(put_values(from, values, buffer))
+    let from = first.put(buffer);
+    Some(put_values(from, values, buffer))
 }

@@ -1,25 +1,23 @@
 -- Digits 0-9a-f, as characters: how a word is read, and how numbers are written.
-use Rattle.std.specs.Prelude.{ℕ, zero, suc, ◌+◌, ◌*◌, ◌-◌, ◌/◌, ◌%◌, ◌&&◌, List, [], ◌∷◌, ◌++◌, ltb, leb, eqb, length}
-use Rattle.rules.specs.declared.HexWord.{HexWord}
-use Rattle.rules.specs.declared.HexWord.TheVariants.{Word, NotHex}
+use Rattle.std.specs.Prelude.{ℕ, zero, suc, ◌+◌, ◌*◌, ◌-◌, ◌/◌, ◌%◌, ◌&&◌, List, [], ◌∷◌, ◌++◌, ltb, leb, eqb, length, Option, Some, None}
 use Rattle.rules.specs.Numbers.{choose}
 
 -- the value of a digit: '0' to '9' are 48 to 57, 'a' to 'f' are 97 to 102
-unfoldable pub digit_of : ℕ → HexWord
-digit_of c = choose (leb 48 c && leb c 57) (Word (c - 48)) (choose (leb 97 c && leb c 102) (Word (c - 87)) NotHex)
+unfoldable pub digit_of : ℕ → Option ℕ
+digit_of c = choose (leb 48 c && leb c 57) (Some (c - 48)) (choose (leb 97 c && leb c 102) (Some (c - 87)) None)
 
-abbrev pub on_digit : HexWord → (ℕ → HexWord) → HexWord
-on_digit NotHex k = NotHex
-on_digit (Word d) k = k d
+abbrev pub on_digit : Option ℕ → (ℕ → Option ℕ) → Option ℕ
+on_digit None k = None
+on_digit (Some d) k = k d
 
 -- the number of digits, the first the highest, after the number n
-unfoldable pub digits_of : ℕ → List ℕ → HexWord
-digits_of n [] = Word n
+unfoldable pub digits_of : ℕ → List ℕ → Option ℕ
+digits_of n [] = Some n
 digits_of n (c ∷ cs) = on_digit (digit_of c) (λ d. digits_of (n * 16 + d) cs)
 
 -- a word: exactly 16 digits
-unfoldable pub word_of : List ℕ → HexWord
-word_of cs = choose (eqb (length cs) 16) (digits_of 0 cs) NotHex
+unfoldable pub word_of : List ℕ → Option ℕ
+word_of cs = choose (eqb (length cs) 16) (digits_of 0 cs) None
 
 -- the character of a digit's value
 abbrev pub digit_char : ℕ → ℕ

@@ -1,6 +1,5 @@
 -- What refusal 2 carries: the number of the earliest malformed frame, the budget line being 0. Document 02, #101.
-use Rattle.std.specs.Prelude.{ℕ, suc, ◌≤◌, ◌≡◌, Bool, true, false, ◌&&◌, List, [], ◌∷◌, ◌++◌, map, leb, length}
-use Rattle.rules.specs.declared.Frame.{Frame}
+use Rattle.std.specs.Prelude.{ℕ, suc, ◌≤◌, ◌≡◌, Bool, true, false, ◌&&◌, List, [], ◌∷◌, ◌++◌, map, leb, length, Option}
 use Rattle.rules.specs.Numbers.{text_limit}
 use Rattle.rules.specs.Frames.{frames_after, is_malformed, any_of, earliest_malformed, count_fits}
 use Rattle.rules.specs.Text.{Line, line_feed, lines_of, frame_of_line, is_not_hex, budget_of, load_budget_text}
@@ -8,6 +7,7 @@ use Rattle.rules.specs.Answers.{refusal}
 use Rattle.rules.specs.Entry.{Snapshot, GuardedSnapshot}
 use Rattle.rules.specs.Calls.{Called, job_program, plain_call, plain_words, plain_text, plain_budget_text, guarded_call, guarded_words, guarded_text, guarded_budget_text}
 use Rattle.rules.specs.Solve.{decimal, zero_fields, spaced, solve}
+use Rattle.rules.specs.declared.Instruction.{Instruction}
 
 -- Of frames numbered from n on, each malformed (true) or well formed (false)
 
@@ -48,7 +48,7 @@ numbered_text text =
     record { in_order = leb (length text) text_limit && count_fits frames; first = 1; malformed = map is_malformed frames }
 
 -- a budget line and the lines after it: the frames, and which of all are malformed, the budget line first
-abbrev pub job_frames : List Line → List Frame
+abbrev pub job_frames : List Line → List (Option Instruction)
 job_frames [] = []
 job_frames (b ∷ lines) = map frame_of_line lines
 

@@ -1,11 +1,6 @@
 -- Programs as text: a frame a line. Document 01, 'Frames', and `solve`'s budget line.
-use Rattle.std.specs.Prelude.{ℕ, zero, suc, ◌/◌, ◌%◌, Bool, true, false, not, List, [], ◌∷◌, ◌++◌, map, leb, eqb, length, take, drop}
-use Rattle.std.proofs.Math.Option.{Option, none, some}
+use Rattle.std.specs.Prelude.{ℕ, zero, suc, ◌/◌, ◌%◌, Bool, true, false, not, List, [], ◌∷◌, ◌++◌, map, leb, eqb, length, take, drop, Option, Some, None}
 use Rattle.rules.specs.declared.Instruction.{Instruction}
-use Rattle.rules.specs.declared.Frame.{Frame}
-use Rattle.rules.specs.declared.Frame.TheVariants.{Malformed}
-use Rattle.rules.specs.declared.HexWord.{HexWord}
-use Rattle.rules.specs.declared.HexWord.TheVariants.{Word, NotHex}
 use Rattle.rules.specs.declared.Refusal.TheVariants.{BadLength, MalformedFrame}
 use Rattle.rules.specs.Numbers.{text_limit, choose}
 use Rattle.rules.specs.Results.{Result, refuse, pass, require}
@@ -30,23 +25,23 @@ abbrev pub lines_of : List ℕ → List Line
 lines_of text = lines_after [] text
 
 -- n joined words, 16 digits each
-abbrev pub cons_word : HexWord → Option (List ℕ) → Option (List ℕ)
-cons_word NotHex r = none
-cons_word (Word w) none = none
-cons_word (Word w) (some ws) = some (w ∷ ws)
+abbrev pub cons_word : Option ℕ → Option (List ℕ) → Option (List ℕ)
+cons_word None r = None
+cons_word (Some w) None = None
+cons_word (Some w) (Some ws) = Some (w ∷ ws)
 
 unfoldable pub joined_words : ℕ → List ℕ → Option (List ℕ)
-joined_words zero l = some []
+joined_words zero l = Some []
 joined_words (suc n) l = cons_word (word_of (take 16 l)) (joined_words n (drop 16 l))
 
-abbrev pub frame_of_words : Option (List ℕ) → Frame
-frame_of_words none = Malformed
-frame_of_words (some ws) = exact_frame_of ws
+abbrev pub frame_of_words : Option (List ℕ) → Option Instruction
+frame_of_words None = None
+frame_of_words (Some ws) = exact_frame_of ws
 
 -- the frame of a line: 16 digits for each word that its first word asks for, and nothing else
-unfoldable pub frame_of_line : Line → Frame
-frame_of_line unended = Malformed
-frame_of_line (ended l) = choose (eqb (length l % 16) 0) (frame_of_words (joined_words (length l / 16) l)) Malformed
+unfoldable pub frame_of_line : Line → Option Instruction
+frame_of_line unended = None
+frame_of_line (ended l) = choose (eqb (length l % 16) 0) (frame_of_words (joined_words (length l / 16) l)) None
 
 unfoldable pub load_text : List ℕ → Result (List Instruction)
 load_text text = require (leb (length text) text_limit) BadLength (load_frames (map frame_of_line (lines_of text)))
@@ -57,17 +52,17 @@ pub record Job : Type 0 where
   pub budget : ℕ
   pub program : List Instruction
 
-unfoldable pub budget_of : Line → HexWord
-budget_of unended = NotHex
+unfoldable pub budget_of : Line → Option ℕ
+budget_of unended = None
 budget_of (ended l) = word_of l
 
-abbrev pub is_not_hex : HexWord → Bool
-is_not_hex NotHex = true
-is_not_hex (Word w) = false
+abbrev pub is_not_hex : Option ℕ → Bool
+is_not_hex None = true
+is_not_hex (Some w) = false
 
-abbrev pub word_value : HexWord → ℕ
-word_value NotHex = 0
-word_value (Word w) = w
+abbrev pub word_value : Option ℕ → ℕ
+word_value None = 0
+word_value (Some w) = w
 
 -- the budget line is number 0, and is not counted among the frames
 unfoldable pub load_job : List Line → Result Job

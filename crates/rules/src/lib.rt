@@ -2,7 +2,7 @@
 #![tactic(auto)]
 
 // Opcodes, in the source's order: a frame holds an opcode's place.
-#[derive(Clone, Copy)]
+#[derive(Clone, Copy, PartialEq, Eq)]
 pub enum OlaOpcode {
     Add,
     Mul,
@@ -53,22 +53,8 @@ pub struct Instruction {
     pub dst: OlaOperand,
 }
 
-// What a frame's words are: an instruction, or malformed.
-#[derive(Clone, Copy)]
-pub enum Frame {
-    Holds(Instruction),
-    Malformed,
-}
-
-// What sixteen characters are: a word, or not digits.
-#[derive(Clone, Copy)]
-pub enum HexWord {
-    Word(u64),
-    NotHex,
-}
-
 // The refusals that a plain run can give, in the order of their numbers, 1 to 17.
-#[derive(Clone, Copy)]
+#[derive(Clone, Copy, PartialEq, Eq)]
 pub enum Refusal {
     BadLength,
     MalformedFrame(u64),
@@ -91,7 +77,10 @@ pub enum Refusal {
 
 // A run's outcome, e0 to e3, or its refusal. A calling outcome carries the callee's address. `MarkedSink` is refusal 18, which only a
 // guarded run gives, `ShortBuffer` is refusal 19, which only a traced run gives.
-#[derive(Clone, Copy)]
+//
+// No `Result`: a machine and its steps are left beside a refusal too, so that nobody hands one on, and `meaning` (specs/Answers.antt)
+// numbers these seven cases by one table.
+#[derive(Clone, Copy, PartialEq, Eq)]
 pub enum Answer {
     Ended,
     Calling(u64, u64, u64, u64),

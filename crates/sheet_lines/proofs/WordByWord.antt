@@ -1,4 +1,5 @@
 -- The words of a line one by one: as code lists them, and as it writes them.
+use Rattle.std.specs.Prelude.{Option}
 use mathlib.Core.Path.{◌≡◌, sym, ap, ap₂, ◌∙◌}
 use mathlib.Core.List.{List, [], ◌∷◌, ◌++◌}
 use Prim.Native.Nat.{ℕ, zero, suc, ◌+◌, ◌<◌, ◌≤◌}
@@ -9,7 +10,6 @@ use lib.Seq.{drop-cons}
 use borrow.Author.Tests.{le-leb}
 use Rattle.rules.specs.Hexadecimal.{digits16}
 use Rattle.rules.specs.Text.{line_feed}
-use Rattle.hexadecimal.specs.declared.Put.{Put}
 use Rattle.hexadecimal.specs.Writing.{overlay_at, Writes}
 use Rattle.hexadecimal.proofs.Buffers.{overlay-nil, overlay-length, overlay-append, overlay-snoc}
 use Rattle.hexadecimal.proofs.Words.{low-length}
@@ -48,7 +48,7 @@ module _ (ws : List ℕ) (i : ℕ) where
     digits = digits16 (get_or ws i 0)
 
     -- a word's digits are written, and the others are to come
-    module _ (more : i < length ws) (fits : next + 16 ≤ length b) {r : Put} {after : List ℕ} (w : Writes digits b next r after) where
+    module _ (more : i < length ws) (fits : next + 16 ≤ length b) {r : Option ℕ} {after : List ℕ} (w : Writes digits b next r after) where
       end : next + 16 ≡ next + length digits
       end = omega (arith, low-length 16 (get_or ws i 0))
 

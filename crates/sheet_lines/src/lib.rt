@@ -17,13 +17,38 @@ const LINE_WORDS: usize = 16;
 // 16 digits for each, and a line feed.
 pub const LINE_BYTES: usize = 16 * LINE_WORDS + 1;
 
-fn present(op0: bool, op1: bool, dst: bool) -> Present
-    ensures { result ≡ record { op0 = op0; op1 = op1; dst = dst } }
-{
-    Present { op0, op1, dst }
-}
+const ALL: Present = Present {
+    op0: true,
+    op1: true,
+    dst: true,
+};
+
+const OP1_AND_DST: Present = Present {
+    op0: false,
+    op1: true,
+    dst: true,
+};
+
+const OP1_ALONE: Present = Present {
+    op0: false,
+    op1: true,
+    dst: false,
+};
+
+const OP0_AND_OP1: Present = Present {
+    op0: true,
+    op1: true,
+    dst: false,
+};
+
+const NONE: Present = Present {
+    op0: false,
+    op1: false,
+    dst: false,
+};
 
 // Which numbers a line has, by the step's opcode.
+#[tactic(auto, unfolding(rules::specs::Opcodes::class_of, sheets::specs::Lines::present_of))]
 pub fn present_of(opcode: OlaOpcode) -> Present
     ensures { result ≡ present_of (class_of opcode) }
 {
@@ -37,12 +62,12 @@ pub fn present_of(opcode: OlaOpcode) -> Present
         | OlaOpcode::Xor
         | OlaOpcode::Gte
         | OlaOpcode::Mload
-        | OlaOpcode::Mstore => present(true, true, true),
-        OlaOpcode::Not | OlaOpcode::Mov => present(false, true, true),
+        | OlaOpcode::Mstore => ALL,
+        OlaOpcode::Not | OlaOpcode::Mov => OP1_AND_DST,
         OlaOpcode::Assert | OlaOpcode::Rc | OlaOpcode::Jmp | OlaOpcode::Cjmp | OlaOpcode::Call =>
-            present(false, true, false),
-        OlaOpcode::Tload | OlaOpcode::Tstore | OlaOpcode::Sccall => present(true, true, false),
-        _ => present(false, false, false),
+            OP1_ALONE,
+        OlaOpcode::Tload | OlaOpcode::Tstore | OlaOpcode::Sccall => OP0_AND_OP1,
+        _ => NONE,
     }
 }
 
@@ -50,10 +75,7 @@ pub fn present_of(opcode: OlaOpcode) -> Present
 fn show(present: bool, number: u64) -> u64
     ensures { result ≡ shown present number }
 {
-    if present {
-        return number;
-    }
-    0
+    if present { number } else { 0 }
 }
 
 // Bits 0, 1 and 2 say which numbers are present.
@@ -99,12 +121,10 @@ pub fn put_line(at: usize, words: &[u64], sheet: &mut [u8])
     requires { at + suc (16 * length words.now) ≤ length sheet.old }
     ensures { sheet.new ≡ overlay_at sheet.old at (line_text words.now) }
 {
-    let mut i = 0;
     let mut next = at;
-    while i < words.len() {
-        hexadecimal::put_16(next, words[i], sheet);
+    for word in words {
+        hexadecimal::put_16(next, *word, sheet);
         next += 16;
-        i += 1;
     }
     sheet[next] = b'\n';
 }

@@ -1,6 +1,5 @@
 -- The sheet after a traced call: a line for each accepted step, and behind the lines what stood there. Document 02, #102.
-use Rattle.std.specs.Prelude.{ℕ, ◌*◌, ◌<◌, ◌≤◌, ◌≡◌, Bool, true, ◌&&◌, ◌||◌, List, [], ◌∷◌, leb, length, get_or, take, drop}
-use Rattle.rules.specs.declared.HexWord.TheVariants.{Word}
+use Rattle.std.specs.Prelude.{ℕ, ◌*◌, ◌<◌, ◌≤◌, ◌≡◌, Bool, true, ◌&&◌, ◌||◌, List, [], ◌∷◌, leb, length, get_or, take, drop, Some}
 use Rattle.rules.specs.declared.Instruction.{Instruction}
 use Rattle.rules.specs.Numbers.{word_end}
 use Rattle.rules.specs.Results.{Result, pass}
@@ -43,7 +42,7 @@ is_digit c = (leb 48 c && leb c 57) || (leb 97 c && leb c 102)
 pub record LineReads (l : List ℕ) : Type 0 where
   pub bytes : length (line_text l) ≡ line_bytes
   pub digits : (i : ℕ) → i < 256 → is_digit (get_or (line_text l) i 0) ≡ true
-  pub reads : (i : ℕ) → i < 16 → get_or l i 0 < word_end → word_of (take 16 (drop (16 * i) (line_text l))) ≡ Word (get_or l i 0)
+  pub reads : (i : ℕ) → i < 16 → get_or l i 0 < word_end → word_of (take 16 (drop (16 * i) (line_text l))) ≡ Some (get_or l i 0)
   pub ends : get_or (line_text l) 256 0 ≡ line_feed
 
 -- The sheet that a call leaves: as long as before; in its first bytes the lines, one after another, 257 bytes for each step; behind them

@@ -1,8 +1,6 @@
 -- Cases of traced calls: each opcode's line, where 19 comes, CALL's further read, moments, and a line as text. A row is a call and what is
 -- looked at after it, and then what document 02, #102 and #103, says. The theorems stand in proofs/TracedCasesHold.antt.
-use Rattle.std.specs.Prelude.{ℕ, zero, suc, ◌+◌, ◌*◌, ◌≡◌, List, [], ◌∷◌, ◌++◌, take, drop, replicate}
-use Rattle.rules.specs.declared.HexWord.{HexWord}
-use Rattle.rules.specs.declared.HexWord.TheVariants.{Word, NotHex}
+use Rattle.std.specs.Prelude.{ℕ, zero, suc, ◌+◌, ◌*◌, ◌≡◌, List, [], ◌∷◌, ◌++◌, take, drop, replicate, Option, Some, None}
 use Rattle.rules.specs.declared.OlaOpcode.{OlaOpcode}
 use Rattle.rules.specs.declared.OlaOpcode.TheVariants as O
 use Rattle.rules.specs.declared.OlaOperand.{OlaOperand}
@@ -26,9 +24,9 @@ traced budget words s n = traced_words words budget (handed s n)
 
 -- What is looked at: the 16 words of a line as they read back, and the first of the bytes behind so many lines
 
-abbrev word_number : HexWord → List ℕ
-word_number (Word n) = n ∷ []
-word_number NotHex = []
+abbrev word_number : Option ℕ → List ℕ
+word_number (Some n) = n ∷ []
+word_number None = []
 
 unfoldable pub words_in : ℕ → List ℕ → List ℕ
 words_in zero cs = []

@@ -1,9 +1,10 @@
 -- The lines of what was read are those of the whole input: it was read to its end, or is too long for a text, and refused whatever stands in it.
-use Rattle.std.proofs.Common.{◌≡◌, ℕ, ◌+◌, ◌<◌, ◌≤◌, List, ◌++◌, None, Some, IfSome, length, take, refl, sym, ap, subst, ◌∙◌, arith, append-nil, length-append, length-take-le}
+use Rattle.std.proofs.Common.{Result, Ok, Err, MatchResult, OnOk, ◌≡◌, ℕ, ◌+◌, ◌<◌, ◌≤◌, List, ◌++◌, None, Some, IfSome, length, take, refl, sym, ap, subst, ◌∙◌, arith, append-nil, length-append, length-take-le}
 use mathlib.Core.Logic.{⊎_elim}
 use Rattle.std.proofs.Math.Nat.{eq-or-lt_of_le}
 use Rattle.std.proofs.lemmas.Bool.{lt-leb}
 use Rattle.std.specs.declared.option.Option.{Option}
+use Rattle.std.specs.Result.{IsErrAnd}
 use Rattle.std.specs.Io.KnownBytes.{Appends, Consumes, IsAtEnd}
 use Rattle.rules.specs.Numbers.{text_limit}
 use Rattle.rules.specs.Results.{require}
@@ -32,3 +33,16 @@ answered None b o p buffer n size within read ends prints = tt
 answered (Some xs) None o p buffer n size within read ends prints = absurd read
 answered (Some xs) (Some rest) o p buffer n size within read ends prints =
     subst (Appends o p) (same-lines xs rest buffer n size within read ends) prints
+
+-- an Ok that `map_err` hands on
+pub mapped-ok : {A E F : Type 0} (P : E → F → Type 0) (r : Result A E) (q : Result A F) (x : A) → MatchResult r (λ y. q ≡ Ok y) (λ e. IsErrAnd q (P e)) → q ≡ Ok x → r ≡ Ok x
+mapped-ok P (Ok y) q x m e = let p : y ≡ x = cc in ap Ok p
+mapped-ok P (Err d) q x m e = absurd (subst (λ r. IsErrAnd r (P d)) e m)
+
+no_ok : {A F : Type 0} (Y : Type 0) (Q : F → Type 0) (q : Result A F) → IsErrAnd q Q → OnOk q Y
+no_ok Y Q (Ok x) m = absurd m
+no_ok Y Q (Err b) m = tt
+
+pub mapped_on_ok : {A E F : Type 0} {X Y : Type 0} (P : E → F → Type 0) (r : Result A E) (q : Result A F) → MatchResult r (λ y. q ≡ Ok y) (λ e. IsErrAnd q (P e)) → (X → Y) → OnOk r X → OnOk q Y
+mapped_on_ok P (Ok y) q m f h = rw m (f h)
+mapped_on_ok {Y = Y} P (Err d) q m f h = no_ok Y (P d) q m

@@ -1,4 +1,5 @@
 -- What was written at a buffer's start is its first bytes.
+use Rattle.std.specs.Prelude.{Option, Some, None}
 use Prim.Native.Nat.{ℕ, ◌+◌, ◌≤◌}
 use mathlib.Core.Path.{◌≡◌, refl, sym, ap, ◌∙◌}
 use mathlib.Core.Bool.{Bool, true, false}
@@ -7,19 +8,17 @@ use native.Mathlib.Omega.{arith}
 use lib.ListN.{length, take, drop}
 use Rattle.std.proofs.Math.Seq.{take-append_seam}
 use Rattle.std.proofs.lemmas.List.{length-append}
-use Rattle.hexadecimal.specs.declared.Put.{Put}
-use Rattle.hexadecimal.specs.declared.Put.TheVariants.{Next, NoSpace}
 use Rattle.hexadecimal.specs.Writing.{fits, overlay_at, Writes}
 
-abbrev next : Put → ℕ
-next (Next n) = n
-next NoSpace = 0
+abbrev next : Option ℕ → ℕ
+next (Some n) = n
+next None = 0
 
 pub record Written (cs after : List ℕ) (end : ℕ) : Type 0 where
   pub within : end ≤ length after
   pub first : take end after ≡ cs
 
-pub written : (cs b after : List ℕ) (r : Put) (end : ℕ) → r ≡ Next end → Writes cs b 0 r after → Written cs after end
+pub written : (cs b after : List ℕ) (r : Option ℕ) (end : ℕ) → r ≡ Some end → Writes cs b 0 r after → Written cs after end
 unfolding overlay_at
 written cs b after r end q w = go (fits b 0 cs) refl
   where

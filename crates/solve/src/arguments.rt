@@ -8,22 +8,19 @@ use std::io::Write;
 // An argument that is longer is refused without its text.
 const ARGUMENT_SIZE: usize = 4096;
 
-// How many arguments come after the program's own name: none, one or more.
+// How many arguments come after the program's own name: none, one or more, which counts as two.
 pub(crate) fn count<E: Env>(env: &E) -> usize {
     if is_missing(1, env) {
-        return 0;
+        0
+    } else if is_missing(2, env) {
+        1
+    } else {
+        2
     }
-    if is_missing(2, env) {
-        return 1;
-    }
-    2
 }
 
 fn is_missing<E: Env>(place: usize, env: &E) -> bool {
-    match env.arg(place, &mut []) {
-        Err(FillError::NotPresent) => true,
-        _ => false,
-    }
+    matches!(env.arg(place, &mut []), Err(FillError::NotPresent))
 }
 
 // Does what the one argument asks for.

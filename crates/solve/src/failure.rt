@@ -44,8 +44,5 @@ fn words_of(text: &[u8]) -> &str {
 }
 
 fn before<'a>(mark: &str, text: &'a str) -> &'a str {
-    match text.split_once(mark) {
-        Some((first, _)) => first,
-        None => text,
-    }
+    text.split_once(mark).map_or(text, |(first, _)| first)
 }

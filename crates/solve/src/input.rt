@@ -16,7 +16,8 @@ pub(crate) fn prompt<T: IsTerminal, E: Eprint>(input: &T, rt: &E) {
 }
 
 // Reads until the input ends or the buffer is full, and answers how many bytes stand at the buffer's start. A read that gives nothing is the
-// end, and there is no further one: a terminal would ask for a second Ctrl-D.
+// end, and there is no further one: a terminal would ask for a second Ctrl-D. A loop of its own, since `read_exact` takes an input that is
+// shorter for an error, and `read_to_end` fills a Vec, which takes a heap.
 pub(crate) fn read_all<R: Read>(input: &mut R, buffer: &mut [u8]) -> io::Result<usize>
     ensures count { ReadsAtMost result buffer.new }
     ensures bytes { IfOk result (λ n. Consumes (R.remaining input.old) (R.remaining input.new) (take n buffer.new)) }

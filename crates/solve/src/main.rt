@@ -12,7 +12,6 @@ mod help;
 mod input;
 
 use failure::Failure;
-use hexadecimal::Put;
 use std::io;
 use std::io::{Read, Write};
 
@@ -50,14 +49,8 @@ fn answer<R: Read, W: Write>(input: &mut R, out: &mut W) -> Result<(), Failure>
         (λ xs. Appends (W.contents out.old) (W.contents out.new) (solve xs))) }
 {
     let mut buffer = [0u8; executor::INPUT_SIZE];
-    let n = match input::read_all(input, &mut buffer) {
-        Ok(n) => n,
-        Err(error) => return Err(Failure::Input(error)),
-    };
-    match print_answer(&buffer[..n], out) {
-        Ok(()) => Ok(()),
-        Err(error) => Err(Failure::Output(error)),
-    }
+    let n = input::read_all(input, &mut buffer).map_err(Failure::Input)?;
+    print_answer(&buffer[..n], out).map_err(Failure::Output)
 }
 
 // Runs the machine on the input, and prints the lines that came of it.
@@ -65,8 +58,6 @@ fn print_answer<W: Write>(input: &[u8], out: &mut W) -> io::Result<()>
     ensures { OnOk result (Appends (W.contents out.old) (W.contents out.new) (solve input.now)) }
 {
     let mut lines = [0u8; LINES_SIZE];
-    match executor::solve(input, &mut lines) {
-        Put::Next(end) => out.write_all(&lines[..end]),
-        Put::NoSpace => unreachable!(),
-    }
+    let end = executor::solve(input, &mut lines).unwrap();
+    out.write_all(&lines[..end])
 }

@@ -4,8 +4,8 @@ use mathlib.Core.Path.{◌≡◌, refl, sym, ap, ◌∙◌}
 use mathlib.Core.Bool.{Bool, true, false}
 use mathlib.Core.List.{List, [], ◌∷◌, ◌++◌}
 use native.Mathlib.Omega.{arith}
-use lib.ListN.{length, get_or, set, take, drop}
-use lib.Seq.{length-take-le, drop-length, drop-cons, get_or-take, take-take}
+use lib.ListN.{length, get_or, set, take, drop, length-drop}
+use lib.Seq.{length-take-le, drop-cons, get_or-take, take-take}
 use Rattle.rules.specs.Numbers.{choose}
 use Rattle.rules.specs.Cells.{Cells, count, addresses, contents, mark_cells}
 use Rattle.rules.specs.Step.{overlay}
@@ -13,11 +13,13 @@ use Rattle.rules.specs.Guarded.{clean_many}
 use Rattle.rules.proofs.Laws.CellLaws.{length-addresses}
 use Rattle.rules.proofs.Laws.HeldLaws.{count-mapped}
 use Rattle.hardware.specs.Buffers.{rank, missing, cells_of, mark_cells_of, put_many, Rising, Ordered, Holding}
-use Rattle.hardware.specs.Places.{overwritten, filled, consecutive, spliced, moved}
+use Rattle.hardware.specs.Places.{insert_at, overwritten, filled, consecutive, spliced, moved}
 use Rattle.hardware.proofs.StoreLaws.{count-put_many}
+use Rattle.hardware.proofs.PlaceLaws.{insert-spliced}
 use Rattle.hardware.proofs.SpliceLaws.{put_all, length-consecutive}
-use Rattle.hardware.proofs.BufferLaws.{rank-used, ranks-rise, new-cells, addresses-of, rises-of, splice, many-alone, held-together}
-use Rattle.storing.proofs.OverwriteLaws.{length-filled, overwritten-none, part_length, part-back, clean-zeros}
+use Rattle.hardware.proofs.SearchLaws.{ranks-rise, new-cells}
+use Rattle.hardware.proofs.BufferLaws.{rank-used, addresses-of, rises-of, splice, many-alone, held-together}
+use Rattle.storing.proofs.OverwriteLaws.{length-filled, length-overwritten, part_length, part-back, clean-zeros}
 
 -- Moving up, from the end on
 
@@ -33,11 +35,6 @@ set_before i v vs [] h = absurd (omega arith)
 set_before zero v vs (x ∷ l) h = refl
 set_before (suc i) v vs (x ∷ l) h = ap (λ (l : List ℕ). x ∷ l) (set_before i v vs l (omega arith))
 
-pub moved_none : (n to : ℕ) (l : List ℕ) → n ≤ length l → l ≡ moved n n to l
-moved_none n to l h =
-    let e : drop n (take n l) ≡ [] = ap (λ (k : ℕ). drop k (take n l)) (sym (length-take-le n l h)) ∙ drop-length (take n l) in
-    sym (ap (λ (us : List ℕ). overwritten to us l) e ∙ overwritten-none to l)
-
 pub moved-next : (n k i j : ℕ) (l : List ℕ) → i ≡ suc j → i ≤ n → n + k ≤ length l
     → set (moved n i (i + k) l) (j + k) (get_or (moved n i (i + k) l) j 0) ≡ moved n j (j + k) l
 moved-next n k i j l e h m =
@@ -51,6 +48,13 @@ moved-next n k i j l e h m =
     ∙ set_before (j + k) (get_or (take n l) j 0) (drop i (take n l)) l (omega arith)
     ∙ ap (λ (q : ℕ). overwritten (j + k) (get_or (take n l) j 0 ∷ drop q (take n l)) l) e
     ∙ ap (λ (us : List ℕ). overwritten (j + k) us l) (sym d)
+
+-- one value in the place that is left
+
+set_one : (i v : ℕ) (l : List ℕ) → i < length l → set l i v ≡ overwritten i (v ∷ []) l
+set_one i v [] h = absurd (omega arith)
+set_one zero v (x ∷ l) h = refl
+set_one (suc i) v (x ∷ l) h = ap (λ (l : List ℕ). x ∷ l) (set_one i v l (omega arith))
 
 -- values in the places that are left
 
@@ -70,6 +74,16 @@ places-filled : (n low high k : ℕ) (vs l : List ℕ) → k ≡ length vs → l
 places-filled n low high k vs l e h m =
     filled-before low (low + k) vs (drop high (take n l)) l (omega arith) m
     ∙ ap (λ (us : List ℕ). overlay (us ++ (vs ++ drop high (take n l))) l) (sym (take-take low n l h))
+
+-- of one value, which is put in
+pub moved-set : (n i v : ℕ) (l : List ℕ) → i ≤ n → n < length l → set (moved n i (i + 1) l) i v ≡ overlay (insert_at i v (take n l)) l
+moved-set n i v l h k =
+    let u : length (take n l) ≡ n = length-take-le n l (omega arith) in
+    let d : length (drop i (take n l)) ≡ length (take n l) - i = length-drop i (take n l) in
+    let m : length (moved n i (i + 1) l) ≡ length l = length-overwritten (i + 1) (drop i (take n l)) l (omega arith) in
+    set_one i v (moved n i (i + 1) l) (omega arith)
+    ∙ places-filled n i i 1 (v ∷ []) l refl h (omega arith)
+    ∙ ap (λ (us : List ℕ). overlay us l) (sym (insert-spliced i v (take n l)))
 
 -- the same of the addresses: the places are lent, j elements, and come back with consecutive ones
 pub places-numbered : (n low high k j a : ℕ) (l us ys : List ℕ) → j ≡ k → low ≤ n → low + k ≤ length l → length us ≡ length l
@@ -96,9 +110,9 @@ pub places-for : (n : ℕ) (xs : List ℕ) → Rising n xs → (a k low high : �
     → n + missing (take n xs) a k ≤ length xs → PlacesFor n xs a k low high
 places-for n xs o a k low high e f h =
     record {
-      rises = ranks-rise n xs o a k low high e f;
+      rises = ranks-rise (take n xs) o.rises a k low high e f;
       used = rank-used n xs o (a + k) high f;
-      new = new-cells n xs o a k low high e f;
+      new = new-cells (take n xs) o.rises a k low high e f;
       fits = h;
     }
 

@@ -5,7 +5,7 @@ use mathlib.Core.Bool.{Bool, true, false}
 use mathlib.Core.List.{List, [], ◌∷◌, ◌++◌}
 use native.Mathlib.Nat.{zero-add, suc-add}
 use native.Mathlib.Omega.{arith}
-use lib.ListN.{length, get_or, set, take, drop, length-drop, take-append-drop}
+use lib.ListN.{length, get_or, set, take, drop, length-replicate, length-drop, take-append-drop}
 use lib.Seq.{length-take-le}
 use Rattle.rules.specs.Numbers.{choose, heap_end, word_end}
 use Rattle.rules.specs.Cells.{Cells, put, addresses, contents, mark_cells}
@@ -21,20 +21,12 @@ use Rattle.hardware.proofs.BufferLaws.{mark-addresses, mark-contents, mark-rises
 -- As many of one value
 
 pub length-filled : (v : ℕ) (l : List ℕ) → length (filled v l) ≡ length l
-length-filled v [] = refl
-length-filled v (x ∷ l) = ap suc (length-filled v l)
+length-filled v l = length-replicate (length l) v
 
 pub get_or-filled : (v : ℕ) (l : List ℕ) (i : ℕ) → i < length l → get_or (filled v l) i 0 ≡ v
 get_or-filled v [] i h = absurd (omega arith)
 get_or-filled v (x ∷ l) zero h = refl
 get_or-filled v (x ∷ l) (suc i) h = get_or-filled v l i (omega arith)
-
--- only how many they are counts
-pub filled-level : (v : ℕ) (l m : List ℕ) → length l ≡ length m → filled v l ≡ filled v m
-filled-level v [] [] e = refl
-filled-level v [] (y ∷ m) e = absurd (omega arith)
-filled-level v (x ∷ l) [] e = absurd (omega arith)
-filled-level v (x ∷ l) (y ∷ m) e = ap (λ (l : List ℕ). v ∷ l) (filled-level v l m (omega arith))
 
 pub overlay-all : (us xs : List ℕ) → length us ≡ length xs → overlay us xs ≡ us
 overlay-all [] [] e = refl
@@ -44,10 +36,7 @@ overlay-all (u ∷ us) (x ∷ xs) e = ap (λ (l : List ℕ). u ∷ l) (overlay-a
 
 -- Overwriting
 
-pub overwritten-none : (i : ℕ) (l : List ℕ) → overwritten i [] l ≡ l
-overwritten-none i l = take-append-drop i l
-
-length-overwritten : (i : ℕ) (vs l : List ℕ) → i + length vs ≤ length l → length (overwritten i vs l) ≡ length l
+pub length-overwritten : (i : ℕ) (vs l : List ℕ) → i + length vs ≤ length l → length (overwritten i vs l) ≡ length l
 length-overwritten zero [] l h = refl
 length-overwritten zero (v ∷ vs) [] h = absurd (omega arith)
 length-overwritten zero (v ∷ vs) (x ∷ l) h = ap suc (length-overwritten zero vs l (omega arith))
@@ -79,11 +68,6 @@ module _ (i k : ℕ) (vs l : List ℕ) (e : k ≡ length vs) (h : i + length vs 
 
   pub part-back : (ys : List ℕ) → length ys ≡ length vs → take i l ++ (ys ++ drop k (drop i l)) ≡ overwritten i ys l
   part-back ys q = ap (λ (k : ℕ). take i l ++ (ys ++ drop k (drop i l))) (e ∙ sym q)
-
-  pub filled-back : (v : ℕ) (ys : List ℕ) → ys ≡ filled v (take k (drop i l)) → take i l ++ (ys ++ drop k (drop i l)) ≡ overwritten i (filled v vs) l
-  filled-back v ys q =
-      let w : ys ≡ filled v vs = q ∙ filled-level v (take k (drop i l)) vs part_length in
-      part-back ys (ap length w ∙ length-filled v vs) ∙ ap (λ (z : List ℕ). overwritten i z l) w
 
 -- of a buffer, of which the first n elements are used
 pub overwritten-used : (n i : ℕ) (vs xs : List ℕ) → n ≤ length xs → i + length vs ≤ n

@@ -1,4 +1,6 @@
 // Memory cells written: numbers with their moment, and in a guarded run marks, at their places; new cells put in where their addresses go.
+// The buffers are handed in one by one: C lends them so, and Rattle covers no ghost field beside a `&mut`, so that no struct could keep that
+// they are `Ordered`.
 ghost use Rattle.std.specs.Prelude.{◌≡◌, true, ◌++◌, ◌+◌, ◌≤◌, ◌<◌, length, set, take, drop};
 ghost use Rattle.rules.specs.Numbers.{choose, bit, heap_end, word_end};
 ghost use Rattle.rules.specs.Memory.{held};
@@ -6,14 +8,13 @@ ghost use Rattle.rules.specs.Cells as Cells;
 ghost use Rattle.rules.specs.Cells.{put};
 ghost use Rattle.rules.specs.Step.{overlay};
 ghost use Rattle.rules.specs.Guarded.{clean_many};
-ghost use Rattle.hardware.specs.declared.cells.Found.TheVariants as Found;
 ghost use Rattle.hardware.specs.Buffers.{rank, found_of, missing, Ordered, Holding};
 ghost use Rattle.hardware.specs.Buffers.{cells_of, mark_cells_of, put_many};
 ghost use Rattle.hardware.specs.Places.{insert_at, overwritten, filled, consecutive, spliced, moved};
 
 use crate::tape;
+use hardware::addresses::Addresses;
 use hardware::cells;
-use hardware::cells::Span;
 use rules::Held;
 
 // The numbers of n cells from a place on, copied to tape or output behind its first `count` values.
@@ -26,17 +27,24 @@ pub fn append_numbers(count: usize, at: usize, n: usize, numbers: &[u64], buffer
     tape::write_values(cells::span_numbers(at, n, numbers), &mut buffer[count..]);
 }
 
+// The used elements from a place on, moved up by n places.
+fn move_up(count: usize, from: usize, n: usize, buffer: &mut [u64])
+    requires from_le_count { from ≤ count }
+    requires n_in_bounds { count + n ≤ length buffer.old }
+    ensures { buffer.new ≡ moved count from (from + n) buffer.old }
+{
+    for i in (from..count).rev() {
+        buffer[i + n] = buffer[i];
+    }
+}
+
 // Puts v in at a place of the first `count` elements, which move up by one from there on.
 fn insert_at(count: usize, at: usize, v: u64, buffer: &mut [u64])
     requires at_le_count { at ≤ count }
     requires count_in_bounds { count < length buffer.old }
     ensures { buffer.new ≡ overlay (insert_at at v (take count buffer.old)) buffer.old }
 {
-    let mut i = count;
-    while at < i {
-        buffer[i] = buffer[i - 1];
-        i = i - 1;
-    }
+    move_up(count, at, 1, buffer);
     buffer[at] = v;
 }
 
@@ -48,11 +56,9 @@ fn insert_held(count: usize, at: usize, held: Held, numbers: &mut [u64], moments
     ensures numbers_after { numbers.new ≡ overlay (insert_at at held.number (take count numbers.old)) numbers.old }
     ensures moments_after { moments.new ≡ overlay (insert_at at held.moment (take count moments.old)) moments.old }
 {
-    let mut i = count;
-    while at < i {
-        numbers[i] = numbers[i - 1];
-        moments[i] = moments[i - 1];
-        i = i - 1;
+    for i in (at..count).rev() {
+        numbers[i + 1] = numbers[i];
+        moments[i + 1] = moments[i];
     }
     numbers[at] = held.number;
     moments[at] = held.moment;
@@ -99,7 +105,7 @@ pub fn insert(
 )
     requires ordered { Ordered guarded count addresses.old numbers.old moments.old marks.old }
     requires count_in_bounds { count < length addresses.old }
-    requires at_value { Found.Absent at ≡ found_of (take count addresses.old) address }
+    requires at_value { Err at ≡ found_of (take count addresses.old) address }
     ensures { Holding guarded
         (put (cells_of count addresses.old numbers.old moments.old) address (held number moment))
         (put (mark_cells_of count addresses.old marks.old) address (bit mark)) (count + 1)
@@ -113,17 +119,6 @@ pub fn insert(
     }
 }
 
-// Clears the marks of a part.
-fn clear(marks: &mut [u64])
-    ensures { marks.new ≡ filled 0 marks.old }
-{
-    let mut i = 0;
-    while i < marks.len() {
-        marks[i] = 0;
-        i += 1;
-    }
-}
-
 // Values in the place of the numbers from a place on, all with one moment. One loop for both, as in insert_held.
 fn write_held(at: usize, values: &[u64], moment: u64, numbers: &mut [u64], moments: &mut [u64])
     requires values_in_bounds { at + length values.now ≤ length numbers.old }
@@ -131,11 +126,9 @@ fn write_held(at: usize, values: &[u64], moment: u64, numbers: &mut [u64], momen
     ensures numbers_after { numbers.new ≡ overwritten at values.now numbers.old }
     ensures moments_after { moments.new ≡ overwritten at (filled moment values.now) moments.old }
 {
-    let mut i = 0;
-    while i < values.len() {
+    for i in 0..values.len() {
         numbers[at + i] = values[i];
         moments[at + i] = moment;
-        i += 1;
     }
 }
 
@@ -160,20 +153,7 @@ fn overwrite(
     write_held(at, values, moment, numbers, moments);
     if guarded {
         let end = at + values.len();
-        clear(&mut marks[at..end]);
-    }
-}
-
-// The used elements from a place on, moved up by n places.
-fn move_up(count: usize, from: usize, n: usize, buffer: &mut [u64])
-    requires from_le_count { from ≤ count }
-    requires n_in_bounds { count + n ≤ length buffer.old }
-    ensures { buffer.new ≡ moved count from (from + n) buffer.old }
-{
-    let mut i = count;
-    while from < i {
-        i = i - 1;
-        buffer[i + n] = buffer[i];
+        marks[at..end].fill(0);
     }
 }
 
@@ -208,14 +188,12 @@ fn number_cells(start: u64, addresses: &mut [u64])
     requires { start + length addresses.old < word_end }
     ensures { addresses.new ≡ consecutive start (length addresses.old) }
 {
-    if addresses.len() == 0 {
+    if addresses.is_empty() {
         return;
     }
     addresses[0] = start;
-    let mut i = 1;
-    while i < addresses.len() {
+    for i in 1..addresses.len() {
         addresses[i] = addresses[i - 1] + 1;
-        i += 1;
     }
 }
 
@@ -248,7 +226,7 @@ fn insert_span(
         ≡ choose guarded (moved count (rank (take count addresses.old) (start + n)) (low + n) marks.old)
         marks.old }
 {
-    let high = cells::rank_of(&addresses[..count], start + n as u64);
+    let high = Addresses::of(count, addresses).rank_of(start + n as u64);
     let new = n - (high - low);
     move_contents(guarded, count, high, new, numbers, moments, marks);
     move_up(count, high, new, addresses);
@@ -280,13 +258,14 @@ pub fn store_many(
         addresses.old numbers.old moments.old marks.old
         addresses.new numbers.new moments.new marks.new }
 {
-    match cells::find_span(count, start, values.len() as u64, addresses) {
-        Span::At(at) => {
+    let present = Addresses::of(count, addresses);
+    match present.find_span(start, values.len() as u64) {
+        Some(at) => {
             overwrite(guarded, at, values, moment, numbers, moments, marks);
             count
         }
-        Span::Absent => {
-            let low = cells::rank_of(&addresses[..count], start);
+        None => {
+            let low = present.rank_of(start);
             let used = insert_span(
                 guarded,
                 count,

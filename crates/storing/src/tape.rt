@@ -7,9 +7,5 @@ pub fn write_values(values: &[u64], free: &mut [u64])
     requires { length values.now ≤ length free.old }
     ensures { free.new ≡ overlay values.now free.old }
 {
-    let mut i = 0;
-    while i < values.len() {
-        free[i] = values[i];
-        i += 1;
-    }
+    free[..values.len()].copy_from_slice(values);
 }

@@ -10,10 +10,9 @@ use Rattle.rules.specs.declared.Ran.{Ran}
 use Rattle.rules.specs.declared.Refusal.{Refusal}
 use Rattle.rules.specs.declared.Refusal.TheVariants.{BadState}
 use Rattle.rules.specs.Results.{Result, refuse, pass}
-use Rattle.rules.specs.Text.{Job}
 use Rattle.rules.specs.Answers.{meaning}
 use Rattle.rules.specs.Entry.{plain_entry}
-use Rattle.rules.specs.Calls.{Called, refused_call, job_budget, job_program}
+use Rattle.rules.specs.Calls.{Called, refused_call}
 use Rattle.rules.specs.Handed.{no_marks}
 use Rattle.sheets.specs.TracedCalls.{TracedSnapshot, traced_snapshot, traced_called, traced_call}
 
@@ -33,8 +32,3 @@ module _ (budget : ℕ) (t : TracedSnapshot) (c : Called TracedSnapshot) where
 
   pub load-refused : (loaded : Result (List Instruction)) (f : Refusal) → loaded ≡ refuse f → c ≡ refused_call f t → c ≡ traced_call loaded budget t
   load-refused loaded f h e = rw h (e ∙ refused-call f)
-
-pub job-refused : (t : TracedSnapshot) (c : Called TracedSnapshot) (loaded : Result Job) (f : Refusal) → loaded ≡ refuse f → c ≡ refused_call f t
-    → c ≡ traced_call (job_program loaded) (job_budget loaded) t
-unfolding traced_call
-job-refused t c loaded f h e = rw h e

@@ -85,10 +85,10 @@ module _ (program : List Instruction) (budget : ℕ) (t : TracedSnapshot) where
     same_length = ap length g.written ∙ length-overlay (lines_text g.lines) t.sheet (omega (arith, g.bytes, g.fits))
 
     -- what one step more gives
-    abbrev pub one : TracedEnd
+    abbrev one : TracedEnd
     one = end_of program (length t.sheet) 1 s g.lines
 
-    pub stepped : {r : Ran} {s' : Snapshot} {sheet' : List ℕ} → TracedStep (end_of program (length sheet) 1 s g.lines) g.lines at sheet r s' sheet'
+    stepped : {r : Ran} {s' : Snapshot} {sheet' : List ℕ} → TracedStep (end_of program (length sheet) 1 s g.lines) g.lines at sheet r s' sheet'
         → TracedStep one g.lines at sheet r s' sheet'
     stepped {r} {s'} {sheet'} h = subst (λ (n : ℕ). TracedStep (end_of program n 1 s g.lines) g.lines at sheet r s' sheet') same_length h
 
@@ -128,7 +128,7 @@ module _ (program : List Instruction) (budget : ℕ) (t : TracedSnapshot) where
                 ∙ (λ i. one_further done (end_of program (length t.sheet) (budget - (done + 1)) (sym h.left i) (h.lines i)) i);
           }
 
-      pub going_on : r.answer ≡ Paused → Going s' (done + 1) (at + 257) sheet'
+      going_on : r.answer ≡ Paused → Going s' (done + 1) (at + 257) sheet'
       going_on p = on p (step_is program (length t.sheet) s g.registers g.enters g.lines)
 
       -- the last step
@@ -140,7 +140,7 @@ module _ (program : List Instruction) (budget : ℕ) (t : TracedSnapshot) where
           ∙ ap (λ (n : ℕ). more_steps done (end_of program (length t.sheet) n s g.lines)) (omega (arith, more))
           ∙ ap (more_steps done) (w (budget - (done + 1)))
 
-      pub stops-here : plain_entry t.plain ≡ true → (r.answer ≡ Paused → ⊥)
+      stops-here : plain_entry t.plain ≡ true → (r.answer ≡ Paused → ⊥)
           → record { answer = meaning r.answer; steps = done + r.steps; left = record { plain = s'; sheet = sheet' } } ≡ traced_call (pass program) budget t
       stops-here f n =
           let w = last n (step_is program (length t.sheet) s g.registers g.enters g.lines) in
@@ -151,13 +151,23 @@ module _ (program : List Instruction) (budget : ℕ) (t : TracedSnapshot) where
           })
           ∙ ap answers_as (sym w) ∙ sym (call-is f)
 
+    -- of the step as the code gives it
+    module _ {r : Ran} {s' : Snapshot} {sheet' : List ℕ} (given : TracedStep (end_of program (length sheet) 1 s g.lines) g.lines at sheet r s' sheet')
+        (more : done < budget) where
+      pub goes_on : r.answer ≡ Paused → Going s' (done + 1) (at + 257) sheet'
+      goes_on = going_on r s' sheet' (stepped given) more
+
+      pub ends : plain_entry t.plain ≡ true → (r.answer ≡ Paused → ⊥)
+          → record { answer = meaning r.answer; steps = done + r.steps; left = record { plain = s'; sheet = sheet' } } ≡ traced_call (pass program) budget t
+      ends = stops-here r s' sheet' (stepped given) more
+
     -- the budget is done
     pub stops-paused : plain_entry t.plain ≡ true → (done < budget → ⊥)
-        → record { answer = meaning Paused; steps = done; left = record { plain = s; sheet = sheet } } ≡ traced_call (pass program) budget t
+        → record { answer = meaning Paused; steps = budget; left = record { plain = s; sheet = sheet } } ≡ traced_call (pass program) budget t
     stops-paused f n =
-        (λ i. record { answer = meaning Paused; steps = add-zero' i; left = record { plain = sym (restored s g.enters) i; sheet = g.written i } })
+        (λ i. record { answer = meaning Paused; steps = all_done i; left = record { plain = sym (restored s g.enters) i; sheet = g.written i } })
         ∙ ap answers_as (sym (g.rest ∙ ap (λ (n : ℕ). more_steps done (end_of program (length t.sheet) n s g.lines)) (omega (arith, n, g.within)) ∙ ap (more_steps done) (none_left s g.lines)))
         ∙ sym (call-is f)
       where
-        add-zero' : done ≡ done + 0
-        add-zero' = omega arith
+        all_done : budget ≡ done + 0
+        all_done = omega (arith, n, g.within)

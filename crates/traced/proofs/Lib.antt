@@ -1,6 +1,5 @@
 -- Laws of the traced step and of the loop over it.
 pub mod PlainSteps
-pub mod Pausing
 pub mod Tracing
 pub mod Stepped
 pub mod Going

@@ -35,28 +35,21 @@ module _ (m : Machine) (xs ns ms tape output : List ℕ) where
   abbrev g : GuardedSnapshot
   g = handed plain_mode m xs ns ms [] tape output
 
-  passes : plain_entry s ≡ true → PassedEntry plain_mode g
-  unfolding mode_entry
-  passes h = passed g false false refl no_marks h (λ _. (refl, refl))
-
   -- what passed entry may run
-  pub passes-plain : (mode : Mode) → mode ≡ plain_mode → plain_entry s ≡ true → PassedEntry mode (handed mode m xs ns ms [] tape output)
-  passes-plain mode e h = subst (λ (k : Mode). PassedEntry k (handed k m xs ns ms [] tape output)) (sym e) (passes h)
+  pub passes-plain : plain_entry s ≡ true → PassedEntry plain_mode g
+  unfolding mode_entry
+  passes-plain h = passed g false false refl no_marks h (λ _. (refl, refl))
 
   -- what the run gives
   module _ (program : List Instruction) (r : Ran) (xs' ns' ms' ts' tape' output' : List ℕ) where
-    stepped : Runs plain_mode program 1 g r (snapshot_left plain_mode r xs' ns' ms' ts' tape' output') → PlainStep program s r (snapshot r.machine xs' ns' ms' tape' output')
-    stepped h =
+    pub stepped-plain : Runs plain_mode program 1 g r (snapshot_left plain_mode r xs' ns' ms' ts' tape' output') → PlainStep program s r (snapshot r.machine xs' ns' ms' tape' output')
+    stepped-plain h =
         let p = mode-plain (environment program s) 1 (guarded_state_of g) in
         record {
           answered = record { answer = h.answer ∙ (λ i. (p i).answer); steps = h.steps ∙ (λ i. (p i).steps) };
           left = ap (λ (l : GuardedSnapshot). l.plain) h.snapshot ∙ (λ i. (guarded_snapshot_after g (p i).state).plain);
           extras = ap (λ (l : GuardedSnapshot). l.extras) h.snapshot ∙ (λ i. (guarded_snapshot_after g (p i).state).extras);
         }
-
-    pub stepped-plain : (mode : Mode) → mode ≡ plain_mode → Runs mode program 1 (handed mode m xs ns ms [] tape output) r (snapshot_left mode r xs' ns' ms' ts' tape' output')
-        → PlainStep program s r (snapshot r.machine xs' ns' ms' tape' output')
-    stepped-plain mode e h = stepped (subst (λ (k : Mode). Runs k program 1 (handed k m xs ns ms [] tape output) r (snapshot_left k r xs' ns' ms' ts' tape' output')) e h)
 
   -- the buffers are no longer than the copies
   pub record Short : Type 0 where

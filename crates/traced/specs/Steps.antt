@@ -1,5 +1,5 @@
 -- What a traced step gives, by the rules' run of one step.
-use Rattle.std.specs.Prelude.{ℕ, ◌+◌, ◌*◌, ◌≤◌, ◌≡◌, Bool, true, false, List, ◌++◌, eqb, length}
+use Rattle.std.specs.Prelude.{ℕ, ◌+◌, ◌*◌, ◌≤◌, ◌≡◌, List, ◌++◌, eqb, length}
 use Rattle.rules.specs.declared.Answer.{Answer}
 use Rattle.rules.specs.declared.Answer.TheVariants.{ShortBuffer}
 use Rattle.rules.specs.declared.Instruction.{Instruction}
@@ -48,12 +48,3 @@ pub record TracedStep
   pub bytes : length (lines_text added) ≡ line_bytes * r.steps
   pub fits : at + length (lines_text added) ≤ length sheet
   pub written : sheet' ≡ overlay_at sheet at (lines_text added)
-
-abbrev pub is_paused : Answer → Bool
-is_paused Answer.Ended = false
-is_paused (Answer.Calling a b c d) = false
-is_paused (Answer.DelegateCalling a b c d) = false
-is_paused Answer.Paused = true
-is_paused (Answer.Refused f) = false
-is_paused Answer.MarkedSink = false
-is_paused Answer.ShortBuffer = false

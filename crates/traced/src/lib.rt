@@ -3,21 +3,23 @@
 //
 // Public: `run_words`, `run_text`, `run_budget_text`. Each takes any arguments, checks them as a plain call does, and answers. They touch
 // nothing but the buffers that they are lent; the sheet is filled from its start, and what stands behind its lines stays. The other
-// functions are private or internal to the crate.
+// functions are private or internal to the crate. README.md names the three, so they stay; `run` does what they do. Why the buffers are no
+// struct is said in `calling::runs`.
 #![tactic(auto)]
 
 mod stepping;
 
 ghost use Rattle.std.specs.Prelude.{◌≡◌, ◌+◌, ◌≤◌, length};
 ghost use Rattle.rules.specs.Results.{pass};
+ghost use Rattle.rules.specs.Frames.{load_words};
 ghost use Rattle.rules.specs.Handed.{no_marks};
 ghost use Rattle.sheets.specs.TracedCalls.{traced_snapshot, traced_called, traced_call, traced_words, traced_text, traced_budget_text};
 ghost use Rattle.program.specs.Table.{program_of, word_slot};
-ghost use Rattle.interpreter.specs.Runs.{Loaded};
 
-use program::binary_program::Checked;
-use program::{binary_program, table};
-use program_text::{LoadedJob, LoadedText};
+use checking::programs::{BudgetText, Program, Text, Words};
+use program::binary_program::WORD_LIMIT;
+use program::table;
+use program::table::{Loaded, Row};
 use rules::{Answer, Machine, Ran, Refusal};
 
 // The bytes of a line: 16 digits for each of its words, and a line feed.
@@ -25,8 +27,7 @@ pub const LINE_BYTES: usize = sheet_lines::LINE_BYTES;
 
 // Runs a loaded program, if what is handed in is fit.
 fn enter(
-    words: &[u64],
-    rows: &[u16],
+    program: Loaded,
     budget: u64,
     machine: Machine,
     addresses: &mut [u64],
@@ -37,24 +38,89 @@ fn enter(
     values: &mut [u64],
     sheet: &mut [u8],
 ) -> Ran
-    requires loaded { Loaded words.now rows.now }
-    requires words_in_bounds { word_slot + length words.now ≤ length values.old }
+    requires { word_slot + length program.words.now ≤ length values.old }
     ensures sheet_after { traced_called result addresses.new numbers.new moments.new tape.new
         output.new sheet.new
-        ≡ traced_call (pass (program_of words.now)) budget
+        ≡ traced_call (pass (program_of program.entry.words.now)) budget
         (traced_snapshot machine addresses.old numbers.old moments.old tape.old
         output.old sheet.old) }
     ensures extras_value { result.extras ≡ no_marks }
 {
     if entry::accepts(machine, addresses, numbers, moments, tape, output) {
         return stepping::run(
-            words, rows, budget, machine, addresses, numbers, moments, tape, output, values, sheet,
+            program, budget, machine, addresses, numbers, moments, tape, output, values, sheet,
         );
     }
     stepping::stop(Answer::Refused(Refusal::BadState), machine)
 }
 
+// Loads a program of bare words, and runs it.
+fn load_and_enter(
+    words: &[u64],
+    budget: u64,
+    machine: Machine,
+    addresses: &mut [u64],
+    numbers: &mut [u64],
+    moments: &mut [u64],
+    tape: &mut [u64],
+    output: &mut [u64],
+    sheet: &mut [u8],
+) -> Ran
+    ensures sheet_after { traced_called result addresses.new numbers.new moments.new tape.new
+        output.new sheet.new
+        ≡ traced_call (load_words words.now) budget
+        (traced_snapshot machine addresses.old numbers.old moments.old tape.old
+        output.old sheet.old) }
+    ensures extras_value { result.extras ≡ no_marks }
+{
+    let mut rows = [Row::EMPTY; table::ROWS];
+    let mut values = [0u64; table::VALUES];
+    match Loaded::load(words, &mut rows) {
+        Ok(program) => enter(
+            program,
+            budget,
+            machine,
+            addresses,
+            numbers,
+            moments,
+            tape,
+            output,
+            &mut values,
+            sheet,
+        ),
+        Err(refusal) => stepping::stop(Answer::Refused(refusal), machine),
+    }
+}
+
+// Runs a program in any form.
+fn run<P: Program>(
+    program: P,
+    machine: Machine,
+    addresses: &mut [u64],
+    numbers: &mut [u64],
+    moments: &mut [u64],
+    tape: &mut [u64],
+    output: &mut [u64],
+    sheet: &mut [u8],
+) -> Ran
+    ensures sheet_after { traced_called result addresses.new numbers.new moments.new tape.new
+        output.new sheet.new
+        ≡ traced_call (P.loaded program) (P.budget program)
+        (traced_snapshot machine addresses.old numbers.old moments.old tape.old
+        output.old sheet.old) }
+    ensures extras_value { result.extras ≡ no_marks }
+{
+    let mut buffer = [0u64; WORD_LIMIT];
+    match program.load(&mut buffer) {
+        Ok(job) => load_and_enter(
+            job.words, job.budget, machine, addresses, numbers, moments, tape, output, sheet,
+        ),
+        Err(refusal) => stepping::stop(Answer::Refused(refusal), machine),
+    }
+}
+
 // Runs a program of bare words.
+#[tactic(auto, unfolding(sheets::specs::TracedCalls::traced_words))]
 pub fn run_words(
     words: &[u64],
     budget: u64,
@@ -73,27 +139,20 @@ pub fn run_words(
         output.old sheet.old) }
     ensures extras_value { result.extras ≡ no_marks }
 {
-    let mut rows = [0u16; table::ROWS];
-    let mut values = [0u64; table::VALUES];
-    match table::load_words(words, &mut rows) {
-        Checked::Frames(_) => enter(
-            words,
-            &rows,
-            budget,
-            machine,
-            addresses,
-            numbers,
-            moments,
-            tape,
-            output,
-            &mut values,
-            sheet,
-        ),
-        Checked::Refused(refusal) => stepping::stop(Answer::Refused(refusal), machine),
-    }
+    run(
+        Words { words, budget },
+        machine,
+        addresses,
+        numbers,
+        moments,
+        tape,
+        output,
+        sheet,
+    )
 }
 
 // Runs a program as text.
+#[tactic(auto, unfolding(sheets::specs::TracedCalls::traced_text))]
 pub fn run_text(
     text: &[u8],
     budget: u64,
@@ -112,27 +171,20 @@ pub fn run_text(
         output.old sheet.old) }
     ensures extras_value { result.extras ≡ no_marks }
 {
-    let mut words = [0u64; binary_program::WORD_LIMIT];
-    match program_text::load_text(text, &mut words) {
-        LoadedText::Frames {
-            frames: _,
-            words: count,
-        } => run_words(
-            &words[..count],
-            budget,
-            machine,
-            addresses,
-            numbers,
-            moments,
-            tape,
-            output,
-            sheet,
-        ),
-        LoadedText::Refused(refusal) => stepping::stop(Answer::Refused(refusal), machine),
-    }
+    run(
+        Text { text, budget },
+        machine,
+        addresses,
+        numbers,
+        moments,
+        tape,
+        output,
+        sheet,
+    )
 }
 
 // Runs a program as text with a budget line.
+#[tactic(auto, unfolding(sheets::specs::TracedCalls::traced_budget_text))]
 pub fn run_budget_text(
     text: &[u8],
     machine: Machine,
@@ -150,23 +202,14 @@ pub fn run_budget_text(
         output.old sheet.old) }
     ensures extras_value { result.extras ≡ no_marks }
 {
-    let mut words = [0u64; binary_program::WORD_LIMIT];
-    match program_text::load_budget_text(text, &mut words) {
-        LoadedJob::Job {
-            budget,
-            frames: _,
-            words: count,
-        } => run_words(
-            &words[..count],
-            budget,
-            machine,
-            addresses,
-            numbers,
-            moments,
-            tape,
-            output,
-            sheet,
-        ),
-        LoadedJob::Refused(refusal) => stepping::stop(Answer::Refused(refusal), machine),
-    }
+    run(
+        BudgetText { text },
+        machine,
+        addresses,
+        numbers,
+        moments,
+        tape,
+        output,
+        sheet,
+    )
 }

@@ -1,15 +1,17 @@
-// Traced steps, one after the other: each is a plain step, and a line of the sheet.
-ghost use Rattle.std.specs.Prelude.{◌≡◌, true, List, ℕ, ◌+◌, ◌*◌, ◌≤◌, length};
+// Traced steps, one after the other: each is a plain step, and a line of the sheet. That what is handed in passed entry is asked of each:
+// the buffers are `&mut`, so that no struct could keep it (`calling::runs`).
+ghost use Rattle.std.specs.Prelude.{◌≡◌, true, List, ℕ, ◌+◌, ◌*◌, ◌≤◌, length, take};
 ghost use Rattle.rules.specs.Results.{pass};
 ghost use Rattle.rules.specs.Entry.{plain_entry};
 ghost use Rattle.rules.specs.Handed.{snapshot, no_marks};
 ghost use Rattle.program.specs.Table.{program_of, word_slot};
-ghost use Rattle.interpreter.specs.Runs.{Loaded};
 ghost use Rattle.sheets.specs.Lines.{line_bytes};
 ghost use Rattle.sheets.specs.TracedCalls.{traced_snapshot, traced_called, traced_call};
 ghost use Rattle.sheets.specs.TracedEnds.{end_of};
-ghost use Rattle.traced.specs.Steps.{PlainStep, PlainAnswer, short_answer, TracedStep, is_paused};
+ghost use Rattle.traced.specs.Steps.{PlainStep, PlainAnswer, short_answer, TracedStep};
 
+use effects::Mode;
+use program::table::Loaded;
 use rules::{Answer, Machine, Marks, Ran, Refusal};
 
 // A call or a run that does no step.
@@ -26,8 +28,7 @@ pub(crate) fn stop(answer: Answer, machine: Machine) -> Ran
 
 // The plain step.
 fn plain_step(
-    words: &[u64],
-    rows: &[u16],
+    program: Loaded,
     machine: Machine,
     addresses: &mut [u64],
     numbers: &mut [u64],
@@ -36,36 +37,42 @@ fn plain_step(
     output: &mut [u64],
     values: &mut [u64],
 ) -> Ran
-    requires loaded { Loaded words.now rows.now }
-    requires words_in_bounds { word_slot + length words.now ≤ length values.old }
+    requires words_in_bounds { word_slot + length program.words.now ≤ length values.old }
     requires output_value { plain_entry (snapshot machine addresses.old numbers.old moments.old tape.old output.old) ≡ true }
-    ensures { PlainStep (program_of words.now)
+    ensures { PlainStep (program_of program.entry.words.now)
         (snapshot machine addresses.old numbers.old moments.old
         tape.old output.old)
         result (snapshot result.machine addresses.new numbers.new moments.new
         tape.new output.new) }
 {
-    let mut none = [0u64; 1];
     interpreter::run(
-        looking::mode(),
-        words,
-        rows,
+        Mode::PLAIN,
+        program,
         1,
         machine,
         addresses,
         numbers,
         moments,
-        &mut none[..0],
+        &mut [],
         tape,
         output,
         values,
     )
 }
 
+// A copy of a buffer, at the front of an array.
+fn copied<const N: usize>(buffer: &[u64]) -> [u64; N]
+    requires { length buffer.now ≤ N }
+    ensures { take (length buffer.now) result ≡ buffer.now }
+{
+    let mut copy = [0; N];
+    copy[..buffer.len()].copy_from_slice(buffer);
+    copy
+}
+
 // The plain step on copies, to see what it would answer.
 fn try_step(
-    words: &[u64],
-    rows: &[u16],
+    program: Loaded,
     machine: Machine,
     addresses: &[u64],
     numbers: &[u64],
@@ -74,26 +81,19 @@ fn try_step(
     output: &[u64],
     values: &mut [u64],
 ) -> Ran
-    requires loaded { Loaded words.now rows.now }
-    requires words_in_bounds { word_slot + length words.now ≤ length values.old }
+    requires words_in_bounds { word_slot + length program.words.now ≤ length values.old }
     requires output_value { plain_entry (snapshot machine addresses.now numbers.now moments.now tape.now output.now) ≡ true }
-    ensures { PlainAnswer (program_of words.now)
+    ensures { PlainAnswer (program_of program.entry.words.now)
         (snapshot machine addresses.now numbers.now moments.now
         tape.now output.now) result }
 {
-    let mut tried_addresses = [0u64; entry::CELL_LIMIT];
-    let mut tried_numbers = [0u64; entry::CELL_LIMIT];
-    let mut tried_moments = [0u64; entry::CELL_LIMIT];
-    let mut tried_tape = [0u64; entry::VALUE_LIMIT];
-    let mut tried_output = [0u64; entry::VALUE_LIMIT];
-    storing::tape::write_values(addresses, &mut tried_addresses);
-    storing::tape::write_values(numbers, &mut tried_numbers);
-    storing::tape::write_values(moments, &mut tried_moments);
-    storing::tape::write_values(tape, &mut tried_tape);
-    storing::tape::write_values(output, &mut tried_output);
+    let mut tried_addresses: [u64; entry::CELL_LIMIT] = copied(addresses);
+    let mut tried_numbers: [u64; entry::CELL_LIMIT] = copied(numbers);
+    let mut tried_moments: [u64; entry::CELL_LIMIT] = copied(moments);
+    let mut tried_tape: [u64; entry::VALUE_LIMIT] = copied(tape);
+    let mut tried_output: [u64; entry::VALUE_LIMIT] = copied(output);
     plain_step(
-        words,
-        rows,
+        program,
         machine,
         &mut tried_addresses[..addresses.len()],
         &mut tried_numbers[..numbers.len()],
@@ -106,8 +106,7 @@ fn try_step(
 
 // The step where the sheet is too short for its line: what else refuses it goes first. It is tried on copies, since it must leave nothing.
 fn step_without_line(
-    words: &[u64],
-    rows: &[u16],
+    program: Loaded,
     machine: Machine,
     addresses: &[u64],
     numbers: &[u64],
@@ -116,11 +115,10 @@ fn step_without_line(
     output: &[u64],
     values: &mut [u64],
 ) -> Ran
-    requires loaded { Loaded words.now rows.now }
-    requires words_in_bounds { word_slot + length words.now ≤ length values.old }
+    requires words_in_bounds { word_slot + length program.words.now ≤ length values.old }
     requires output_value { plain_entry (snapshot machine addresses.now numbers.now moments.now tape.now output.now) ≡ true }
     ensures { result ≡ record {
-      answer = short_answer (program_of words.now)
+      answer = short_answer (program_of program.entry.words.now)
           (snapshot machine addresses.now numbers.now moments.now
           tape.now output.now);
       steps = 0;
@@ -129,19 +127,17 @@ fn step_without_line(
     } }
 {
     let tried = try_step(
-        words, rows, machine, addresses, numbers, moments, tape, output, values,
+        program, machine, addresses, numbers, moments, tape, output, values,
     );
     if tried.steps == 0 {
-        let refusal = tried.answer;
-        return stop(refusal, machine);
+        return stop(tried.answer, machine);
     }
     stop(Answer::ShortBuffer, machine)
 }
 
 // One traced step, whose line begins at a place of the sheet.
 fn step(
-    words: &[u64],
-    rows: &[u16],
+    program: Loaded,
     at: usize,
     machine: Machine,
     addresses: &mut [u64],
@@ -152,12 +148,11 @@ fn step(
     values: &mut [u64],
     sheet: &mut [u8],
 ) -> Ran
-    requires loaded { Loaded words.now rows.now }
-    requires words_in_bounds { word_slot + length words.now ≤ length values.old }
+    requires words_in_bounds { word_slot + length program.words.now ≤ length values.old }
     requires output_value { plain_entry (snapshot machine addresses.old numbers.old moments.old tape.old output.old) ≡ true }
     requires at_in_bounds { at ≤ length sheet.old }
     ensures { (ls : List (List ℕ)) → at ≡ line_bytes * length ls
-        → TracedStep (end_of (program_of words.now) (length sheet.old) 1
+        → TracedStep (end_of (program_of program.entry.words.now) (length sheet.old) 1
         (snapshot machine addresses.old numbers.old moments.old
         tape.old output.old) ls)
         ls at sheet.old
@@ -165,41 +160,30 @@ fn step(
         tape.new output.new)
         sheet.new }
 {
-    let look = looking::look(words, rows, machine, addresses, values);
+    let look = looking::look(program, machine, addresses, values);
     if look.unread {
         return stop(Answer::Refused(Refusal::CellAbsent), machine);
     }
     if sheet.len() - at < sheet_lines::LINE_BYTES {
         return step_without_line(
-            words, rows, machine, addresses, numbers, moments, tape, output, values,
+            program, machine, addresses, numbers, moments, tape, output, values,
         );
     }
     let ran = plain_step(
-        words, rows, machine, addresses, numbers, moments, tape, output, values,
+        program, machine, addresses, numbers, moments, tape, output, values,
     );
     if ran.steps == 0 {
         return ran;
     }
-    let after = ran.machine.registers;
-    let dst = look.dst;
-    let line = sheet_lines::line_words(machine, look.present, look.op0, look.op1, after[dst]);
+    let dst = ran.machine.registers[look.dst];
+    let line = sheet_lines::line_words(machine, look.present, look.op0, look.op1, dst);
     sheet_lines::put_line(at, &line, sheet);
     ran
 }
 
-fn is_paused(answer: Answer) -> bool
-    ensures { result ≡ is_paused answer }
-{
-    match answer {
-        Answer::Paused => true,
-        _ => false,
-    }
-}
-
 // The steps of a budget, from what passed entry.
 pub(crate) fn run(
-    words: &[u64],
-    rows: &[u16],
+    program: Loaded,
     budget: u64,
     start: Machine,
     addresses: &mut [u64],
@@ -210,40 +194,32 @@ pub(crate) fn run(
     values: &mut [u64],
     sheet: &mut [u8],
 ) -> Ran
-    requires loaded { Loaded words.now rows.now }
-    requires words_in_bounds { word_slot + length words.now ≤ length values.old }
+    requires words_in_bounds { word_slot + length program.words.now ≤ length values.old }
     requires output_value { plain_entry (snapshot start addresses.old numbers.old moments.old tape.old output.old) ≡ true }
     ensures sheet_after { traced_called result addresses.new numbers.new moments.new tape.new
         output.new sheet.new
-        ≡ traced_call (pass (program_of words.now)) budget
+        ≡ traced_call (pass (program_of program.entry.words.now)) budget
         (traced_snapshot start addresses.old numbers.old moments.old tape.old
         output.old sheet.old) }
     ensures extras_value { result.extras ≡ no_marks }
 {
     let mut machine = start;
-    let mut done = 0;
     let mut at = 0;
-    while done < budget {
+    for done in 0..budget {
         let ran = step(
-            words, rows, at, machine, addresses, numbers, moments, tape, output, values, sheet,
+            program, at, machine, addresses, numbers, moments, tape, output, values, sheet,
         );
-        let answer = ran.answer;
-        machine = ran.machine;
-        if !is_paused(answer) {
+        let Answer::Paused = ran.answer else {
             return Ran {
-                answer,
                 steps: done + ran.steps,
-                machine,
-                extras: Marks { registers: 0 },
+                ..ran
             };
-        }
-        done += 1;
+        };
+        machine = ran.machine;
         at += sheet_lines::LINE_BYTES;
     }
     Ran {
-        answer: Answer::Paused,
-        steps: done,
-        machine,
-        extras: Marks { registers: 0 },
+        steps: budget,
+        ..stop(Answer::Paused, machine)
     }
 }

@@ -8,7 +8,7 @@ mod lines;
 mod runs;
 mod show;
 
-use case_fields::parts::SIZE;
+use lines::Player;
 use std::io;
 use std::io::Input;
 
@@ -17,15 +17,7 @@ const BUFFER_SIZE: usize = 65_536;
 
 // Plays the standard input.
 pub fn play_input<R: Input + Print>(rt: &R) -> io::Result<()> {
-    let mut text = [0u8; executor::INPUT_SIZE];
-    let mut fields = [0u64; SIZE];
     let mut buffer = [0u8; BUFFER_SIZE];
-    let mut out = io::writer(rt);
-    input::play(
-        &mut rt.reader(),
-        &mut text,
-        &mut fields,
-        &mut buffer,
-        &mut out,
-    )
+    let mut player = Player::new(io::writer(rt));
+    input::play(&mut rt.reader(), &mut buffer, &mut player)
 }

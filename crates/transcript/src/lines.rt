@@ -1,66 +1,78 @@
 // What each line does.
 use crate::runs::play_case;
 use case_calls::Run;
-use case_fields::lines::{clear, read_line, second_letter};
-use case_fields::parts::Fields;
+use case_fields::case::Case;
+use case_fields::parts::NotUnderstood;
 use std::io;
 use std::io::Write;
 
-// Does what the line says, or says that it is not understood.
-pub(crate) fn play_line<W: Write>(
-    line: &[u8],
-    text: &mut [u8],
-    fields: &mut Fields,
-    out: &mut W,
-) -> io::Result<()> {
-    if is_understood(line, text, fields, out)? {
-        return Ok(());
-    }
-    out.write_all(b"? ")?;
-    repeat(line, out)
+// Why what a line says was not done.
+pub(crate) enum Fault {
+    NotUnderstood,
+    Io(io::Error),
 }
 
-fn repeat<W: Write>(line: &[u8], out: &mut W) -> io::Result<()> {
-    out.write_all(line)?;
-    out.write_all(b"\n")
+impl From<NotUnderstood> for Fault {
+    fn from(_fault: NotUnderstood) -> Fault {
+        Fault::NotUnderstood
+    }
 }
 
-// Does what the line says, and answers whether it could.
-fn is_understood<W: Write>(
-    line: &[u8],
-    text: &mut [u8],
-    fields: &mut Fields,
-    out: &mut W,
-) -> io::Result<bool> {
-    if line.len() == 0 {
-        return Ok(true);
+impl From<io::Error> for Fault {
+    fn from(error: io::Error) -> Fault {
+        Fault::Io(error)
     }
-    match line[0] {
-        b'#' => Ok(true),
-        b'c' => {
-            repeat(line, out)?;
-            clear(fields);
-            Ok(true)
+}
+
+// Plays lines: its case takes what they give, and what the runs of the case do is written out.
+#[derive(Drop)]
+pub(crate) struct Player<W> {
+    case: Case,
+    out: W,
+}
+
+impl<W: Write> Player<W> {
+    pub(crate) fn new(out: W) -> Player<W> {
+        Player {
+            case: Case::new(),
+            out,
         }
-        b'p' => repeat_and_play(Run::Plain, line, text, fields, out),
-        b'g' => repeat_and_play(Run::Guarded, line, text, fields, out),
-        b't' => {
-            if second_letter(line) == b'r' {
-                return repeat_and_play(Run::Traced, line, text, fields, out);
+    }
+
+    // Does what the line says, or says that it is not understood.
+    pub(crate) fn play(&mut self, line: &[u8]) -> io::Result<()> {
+        match self.follow(line) {
+            Ok(()) => Ok(()),
+            Err(Fault::NotUnderstood) => {
+                self.out.write_all(b"? ")?;
+                self.repeat(line)
             }
-            Ok(read_line(b't', line, text, fields))
+            Err(Fault::Io(error)) => Err(error),
         }
-        letter => Ok(read_line(letter, line, text, fields)),
     }
-}
 
-fn repeat_and_play<W: Write>(
-    run: Run,
-    line: &[u8],
-    text: &[u8],
-    fields: &mut Fields,
-    out: &mut W,
-) -> io::Result<bool> {
-    repeat(line, out)?;
-    play_case(run, line, text, fields, out)
+    fn follow(&mut self, line: &[u8]) -> Result<(), Fault> {
+        match line {
+            [] | [b'#', ..] => Ok(()),
+            [b'c', ..] => {
+                self.repeat(line)?;
+                self.case.clear();
+                Ok(())
+            }
+            [b'p', ..] => self.run(Run::Plain, line),
+            [b'g', ..] => self.run(Run::Guarded, line),
+            [b't', b'r', ..] => self.run(Run::Traced, line),
+            _ => Ok(self.case.read_line(line)?),
+        }
+    }
+
+    fn run(&mut self, run: Run, line: &[u8]) -> Result<(), Fault> {
+        self.repeat(line)?;
+        play_case(run, line, &mut self.case, &mut self.out)
+    }
+
+    fn repeat(&mut self, line: &[u8]) -> io::Result<()> {
+        self.out.write_all(line)?;
+        self.out.write_all(b"\n")
+    }
 }

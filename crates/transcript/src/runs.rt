@@ -1,59 +1,44 @@
 // The runs of a case: step after step, and again in one call.
+use crate::lines::Fault;
 use crate::show::show;
 use case_calls::{Form, Run, call};
-use case_fields::lines::complete;
-use case_fields::numbers::read_numbers;
-use case_fields::parts;
-use case_fields::parts::Fields;
+use case_fields::case::Case;
+use case_fields::snapshot::Snapshot;
 use rules::Answer;
 use std::io;
 use std::io::Write;
 
-// Runs the case with the budget that the line gives, and answers whether the line is understood.
+// Runs the case with the budget that the line gives.
 pub(crate) fn play_case<W: Write>(
     run: Run,
     line: &[u8],
-    text: &[u8],
-    fields: &mut Fields,
+    case: &mut Case,
     out: &mut W,
-) -> io::Result<bool> {
-    if !read_numbers(line, parts::BUDGET, fields) {
-        return Ok(false);
+) -> Result<(), Fault> {
+    case.budget.read(line)?;
+    case.complete();
+    let mut shown = case.start;
+    let form = form_of(case);
+    match form {
+        Form::Words(budget) => play_calls(run, Form::Step, budget, case, &mut shown, out)?,
+        Form::Text(budget) => play_calls(run, Form::Text(1), budget, case, &mut shown, out)?,
+        // The text has the budget: no step is made alone.
+        _ => {}
     }
-    complete(fields);
-    let mut shown = *fields;
-    let form = form_of(fields);
-    play_steps(run, form, text, fields, &mut shown, out)?;
     out.write_all(b"run ")?;
-    play_calls(run, form, 1, text, fields, &mut shown, out)?;
-    Ok(true)
+    play_calls(run, form, 1, case, &mut shown, out)?;
+    Ok(())
 }
 
 // The function that takes what the case gives.
-fn form_of(fields: &Fields) -> Form {
-    if fields[parts::BUDGET] == 0 {
+fn form_of(case: &Case) -> Form {
+    let Some(budget) = case.budget.given().first() else {
         return Form::BudgetText;
-    }
-    let budget = fields[parts::BUDGET + 1];
-    if fields[parts::WORDS] == parts::UNUSED {
-        return Form::Text(budget);
-    }
-    Form::Words(budget)
-}
-
-// Runs the case step after step, unless its text has the budget.
-fn play_steps<W: Write>(
-    run: Run,
-    form: Form,
-    text: &[u8],
-    start: &Fields,
-    shown: &mut Fields,
-    out: &mut W,
-) -> io::Result<()> {
-    match form {
-        Form::Words(budget) => play_calls(run, Form::Step, budget, text, start, shown, out),
-        Form::Text(budget) => play_calls(run, Form::Text(1), budget, text, start, shown, out),
-        _ => Ok(()),
+    };
+    if case.words.count.is_some() {
+        Form::Words(*budget)
+    } else {
+        Form::Text(*budget)
     }
 }
 
@@ -63,27 +48,17 @@ fn play_calls<W: Write>(
     run: Run,
     form: Form,
     most: u64,
-    text: &[u8],
-    start: &Fields,
-    shown: &mut Fields,
+    case: &Case,
+    shown: &mut Snapshot,
     out: &mut W,
 ) -> io::Result<()> {
-    let mut fields = *start;
-    let mut next = *start;
+    let mut snapshot = case.start;
     for _ in 0..most {
-        let ran = call(run, form, text, &fields, &mut next);
-        show(ran, &next, shown, out)?;
-        if !is_paused(ran.answer) {
-            return Ok(());
+        let ran = call(run, form, case, &mut snapshot);
+        show(ran, case, &snapshot, shown, out)?;
+        if !matches!(ran.answer, Answer::Paused) {
+            break;
         }
-        fields = next;
     }
     Ok(())
-}
-
-fn is_paused(answer: Answer) -> bool {
-    match answer {
-        Answer::Paused => true,
-        _ => false,
-    }
 }

@@ -1,12 +1,7 @@
 // What is written of a call.
-ghost use Rattle.std.specs.Prelude.{◌≤◌, ◌<◌, length};
-ghost use Rattle.case_fields.specs.Parts.{IsPart, longest};
-
-use case_fields::buffers::{fill_sheet, put_bytes};
-use case_fields::parts;
-use case_fields::parts::{Fields, LONGEST};
-use case_fields::text::first_bytes;
-use hexadecimal::Put;
+use case_fields::case::Case;
+use case_fields::parts::Part;
+use case_fields::snapshot::Snapshot;
 use rules::{Answer, Ran};
 use std::io;
 use std::io::Write;
@@ -18,132 +13,81 @@ const LINE_SIZE: usize = 128;
 // The answer's line, the callee, and what changed since it was last shown.
 pub(crate) fn show<W: Write>(
     ran: Ran,
-    fields: &Fields,
-    shown: &mut Fields,
+    case: &Case,
+    snapshot: &Snapshot,
+    shown: &mut Snapshot,
     out: &mut W,
 ) -> io::Result<()> {
     show_answer(ran, out)?;
     show_calling(ran.answer, out)?;
-    note_clock(ran.steps, fields, shown);
-    show_changes("registers", parts::REGISTERS, fields, shown, out)?;
-    show_changes("state", parts::STATE, fields, shown, out)?;
-    show_changes("used", parts::USED, fields, shown, out)?;
-    show_changes("addresses", parts::ADDRESSES, fields, shown, out)?;
-    show_changes("numbers", parts::NUMBERS, fields, shown, out)?;
-    show_changes("moments", parts::MOMENTS, fields, shown, out)?;
-    show_changes("marks", parts::MARKS, fields, shown, out)?;
-    show_changes("tape", parts::TAPE, fields, shown, out)?;
-    show_changes("output", parts::OUTPUT, fields, shown, out)?;
-    show_sheet(fields, shown, out)
+    note_clock(ran.steps, snapshot, shown);
+    for ((name, part), (_, last)) in snapshot.named().into_iter().zip(shown.named()) {
+        show_changes(name, part, last, out)?;
+    }
+    let length = case.sheet_length();
+    show_pieces(&snapshot.sheet[..length], &shown.sheet[..length], out)?;
+    *shown = *snapshot;
+    Ok(())
 }
 
 // The line that `solve` prints.
 fn show_answer<W: Write>(ran: Ran, out: &mut W) -> io::Result<()> {
     let mut line = [0u8; LINE_SIZE];
     match report::print(ran.answer, ran.steps, ran.machine, &[], &mut line) {
-        Put::Next(end) => out.write_all(first_bytes(end, &line)),
-        Put::NoSpace => Ok(()),
+        Some(end) => out.write_all(line.get(..end).unwrap_or(&line)),
+        None => Ok(()),
     }
 }
 
-// Where a step was done, pc and clk are in the answer's line, and count as shown.
-fn note_clock(steps: u64, fields: &Fields, shown: &mut Fields) {
+// Where a step was done, pc and clk, the first two numbers of the state, are in the answer's line, and count as shown.
+fn note_clock(steps: u64, snapshot: &Snapshot, shown: &mut Snapshot) {
     if 0 < steps {
-        shown[parts::PC] = fields[parts::PC];
-        shown[parts::CLK] = fields[parts::CLK];
+        shown.state.numbers[..2].copy_from_slice(&snapshot.state.numbers[..2]);
     }
 }
 
 fn show_calling<W: Write>(answer: Answer, out: &mut W) -> io::Result<()> {
     match answer {
-        Answer::Calling(a, b, c, d) => show_callee(a, b, c, d, out),
-        Answer::DelegateCalling(a, b, c, d) => show_callee(a, b, c, d, out),
+        Answer::Calling(a, b, c, d) | Answer::DelegateCalling(a, b, c, d) => {
+            writeln!(out, "callee {a:x} {b:x} {c:x} {d:x}")
+        }
         _ => Ok(()),
     }
 }
 
-fn show_callee<W: Write>(a: u64, b: u64, c: u64, d: u64, out: &mut W) -> io::Result<()> {
-    writeln!(out, "callee {a:x} {b:x} {c:x} {d:x}")
-}
-
-// Each place of a part whose number is another than was last shown.
-fn show_changes<W: Write>(
-    name: &str,
-    part: usize,
-    fields: &Fields,
-    shown: &mut Fields,
-    out: &mut W,
-) -> io::Result<()>
-    requires { IsPart part }
-{
-    let mut named = false;
-    for i in 0..LONGEST {
-        let at = part + 1 + i;
-        if shown[at] != fields[at] {
-            show_change(name, named, i, fields[at], out)?;
-            named = true;
-            shown[at] = fields[at];
+// The places of a part whose numbers are others than were last shown, behind its name.
+fn show_changes<W: Write>(name: &str, part: &Part, last: &Part, out: &mut W) -> io::Result<()> {
+    if part.numbers == last.numbers {
+        return Ok(());
+    }
+    write!(out, "{name}")?;
+    for (place, (now, then)) in part.numbers.iter().zip(&last.numbers).enumerate() {
+        if now != then {
+            write!(out, " {place:x}={now:x}")?;
         }
     }
-    if named {
-        out.write_all(b"\n")?;
-    }
-    Ok(())
+    out.write_all(b"\n")
 }
 
-// A place and its number, after the name where that is not shown yet.
-fn show_change<W: Write>(
-    name: &str,
-    named: bool,
-    place: usize,
-    now: u64,
-    out: &mut W,
-) -> io::Result<()> {
-    if !named {
-        write!(out, "{name}")?;
-    }
-    write!(out, " {place:x}={now:x}")
-}
-
-// Each piece of the sheet that is not as it was last shown.
-fn show_sheet<W: Write>(fields: &Fields, shown: &mut Fields, out: &mut W) -> io::Result<()> {
-    let mut sheet = [0u8; LONGEST];
-    let length = fill_sheet(fields, &mut sheet);
-    show_pieces(&sheet[..length], shown, out)
-}
-
-fn show_pieces<W: Write>(sheet: &[u8], shown: &mut Fields, out: &mut W) -> io::Result<()>
-    requires { length sheet.now ≤ longest }
-{
-    let mut piece: u64 = 0;
-    let mut from = 0;
-    while from < sheet.len() {
-        let end = piece_end(from, sheet.len());
-        if put_bytes(&sheet[from..end], from, shown) {
+// The pieces of the sheet that are not as they were last shown; the last piece may be shorter.
+fn show_pieces<W: Write>(sheet: &[u8], last: &[u8], out: &mut W) -> io::Result<()> {
+    for (piece, (now, then)) in sheet
+        .chunks(LINE_BYTES)
+        .zip(last.chunks(LINE_BYTES))
+        .enumerate()
+    {
+        if now != then {
             write!(out, "sheet {piece:x} ")?;
-            print_line(&sheet[from..end], out)?;
+            print_line(now, out)?;
         }
-        piece += 1;
-        from = end;
     }
     Ok(())
-}
-
-// Where the piece from a place on ends: the last one may be shorter.
-fn piece_end(from: usize, length: usize) -> usize
-    requires { from < length }
-    ensures { (from < result) × (result ≤ length) }
-{
-    if length - from < LINE_BYTES {
-        return length;
-    }
-    from + LINE_BYTES
 }
 
 // A text as a line, whether its line feed is in it or not.
 fn print_line<W: Write>(text: &[u8], out: &mut W) -> io::Result<()> {
     out.write_all(text)?;
-    if text.len() == 0 || text[text.len() - 1] != b'\n' {
+    if !text.ends_with(b"\n") {
         out.write_all(b"\n")?;
     }
     Ok(())

@@ -1,10 +1,10 @@
 -- `eight_digits::number` meets its contract for every word. The test is that of all bytes at once (Bytewise.antt), and the last three steps
 -- bring the eight digits together (Squeeze.antt).
+use Rattle.std.specs.Prelude.{Some}
 use mathlib.Core.Path.{◌≡◌, sym, ap, ◌∙◌}
 use Prim.Native.Nat.{ℕ, ◌/◌}
 use native.Mathlib.Omega.{arith}
 use lib.Bits.{bit_and, and_le_r}
-use Rattle.rules.specs.declared.HexWord.TheVariants.{Word}
 use Rattle.eight_digits.proofs.Bytewise.{digits_in, digits, enough, past-lt, no_number, a-number, its-digits, digits_le}
 use Rattle.eight_digits.proofs.Squeeze.{pack, gather, moved}
 use Rattle.eight_digits.proofs.number.Goals as goal
@@ -49,4 +49,4 @@ pub returns : goal.returns
 returns c =
     let w = c.args.w in
     let l = c.ranges.w.fits in
-    ap Word (gathered w (its-digits w l c.if-wrong-ne0.false)) ∙ sym (a-number w l c.if-wrong-ne0.false)
+    ap Some (gathered w (its-digits w l c.if-wrong-ne0.false)) ∙ sym (a-number w l c.if-wrong-ne0.false)

@@ -1,9 +1,7 @@
--- `eight_digits::packed` meets its contract: `four` says what each half is.
-use Rattle.eight_digits.proofs.Packing.{packed-characters}
+-- `eight_digits::packed` meets its contract: the word's bytes are those that it was made of.
+use Rattle.std.proofs.lemmas.Nat.{be_bytes_8}
+use Rattle.std.proofs.Math.Nat.{div-one}
 use Rattle.eight_digits.proofs.packed.Goals as goal
 
 pub returns : goal.returns
-returns c =
-    let a = c.args in
-    let f = c.ranges in
-    packed-characters a.a a.b a.c a.d a.e a.f a.g a.h f.a.fits f.b.fits f.c.fits f.d.fits f.e.fits f.f.fits f.g.fits f.h.fits c.four.result c.four-2.result c.four.ensures c.four-2.ensures
+returns c = rw div-one (be_bytes_8 c.args.text.now c.from_be_bytes.result c.told-text c.fits-text c.from_be_bytes.ensures)

@@ -1,66 +1,48 @@
--- `entry::accepts` meets its contract: each return says which test failed, and the last one that all others passed.
-use mathlib.Core.Path.{sym, ap, ◌∙◌}
+-- `entry::accepts` meets its contract: its tests are those of `plain_entry`.
+use mathlib.Core.Path.{◌≡◌, sym, ap, ◌∙◌}
 use native.Mathlib.Omega.{arith}
 use lib.Dec.{leb}
-use borrow.Author.Tests.{not-true, not-false}
+use Rattle.std.specs.Prelude.{◌&&◌}
+use Rattle.std.proofs.lemmas.Bool.Decides.{nat_tests}
 use Rattle.rules.specs.Numbers.{p, clock_end, cell_limit, value_limit}
-use Rattle.rules.specs.Entry.{every, rising_from}
-use Rattle.entry.proofs.Tests.{clock-late, cells-short, tape-short, output-short, numbers-uneven, moments-uneven, cells-long, tape-long, output-long, not-rising, number-above, moments-decide}
+use Rattle.rules.specs.Step.{is_storable}
+use Rattle.rules.specs.Entry.{all, every, rising_from, used_addresses, used_numbers}
+use Rattle.rules.specs.Handed.{snapshot}
+use Rattle.entry.proofs.Tests.{sizes_fit, passed, failed, plain-refused, plain-decided}
 use Rattle.entry.proofs.accepts.Goals as goal
+use Rattle.entry.proofs.accepts.Goals.{Joined-tape-le-VALUE_LIMIT, Joined-sizes_fit, Joined-rising, then-sizes_fit, else-sizes_fit, then-rising, else-rising}
 
-pub returns-then-machine-ge-CLOCK_END : goal.returns-then-machine-ge-CLOCK_END
-unfolding clock_end
-returns-then-machine-ge-CLOCK_END c = sym (clock-late _ (omega arith))
+sizes : (c : Joined-tape-le-VALUE_LIMIT) → let a = c.args in let s = snapshot a.machine a.addresses.now a.numbers.now a.moments.now a.tape.now a.output.now in c.if-tape-le-VALUE_LIMIT.sizes_fit ≡ sizes_fit s
+unfolding all clock_end cell_limit value_limit
+sizes c = grind (arith, nat_tests)
 
-pub returns-then-addresses-machine : goal.returns-then-addresses-machine
-returns-then-addresses-machine c = sym (cells-short _ (omega arith))
+addresses : (c : Joined-sizes_fit) → let a = c.args in let s = snapshot a.machine a.addresses.now a.numbers.now a.moments.now a.tape.now a.output.now in c.if-tape-le-VALUE_LIMIT.sizes_fit ≡ sizes_fit s
+    → c.if-sizes_fit.value ≡ (sizes_fit s && rising_from 0 (used_addresses s))
+addresses c f =
+    elim c.if-sizes_fit.branch [
+      | then-sizes_fit w ↦ passed f w.if-sizes_fit.true (w.value-is ∙ w.rising.ensures ∙ ap (rising_from 0) w.used.ensures)
+      | else-sizes_fit w ↦ failed _ f w.if-sizes_fit.false w.value-is
+    ]
 
-pub returns-then-tape-machine : goal.returns-then-tape-machine
-returns-then-tape-machine c = sym (tape-short _ (omega arith))
-
-pub returns-then-output-machine : goal.returns-then-output-machine
-returns-then-output-machine c = sym (output-short _ (omega arith))
-
-pub returns-then-numbers-addresses : goal.returns-then-numbers-addresses
-returns-then-numbers-addresses c = sym (numbers-uneven _ (λ e. omega arith))
-
-pub returns-then-moments-addresses : goal.returns-then-moments-addresses
-returns-then-moments-addresses c = sym (moments-uneven _ (λ e. omega arith))
-
-pub returns-then-addresses-gt-CELL_LIMIT : goal.returns-then-addresses-gt-CELL_LIMIT
-unfolding cell_limit
-returns-then-addresses-gt-CELL_LIMIT c = sym (cells-long _ (omega arith))
-
-pub returns-then-tape-gt-VALUE_LIMIT : goal.returns-then-tape-gt-VALUE_LIMIT
-unfolding value_limit
-returns-then-tape-gt-VALUE_LIMIT c = sym (tape-long _ (omega arith))
-
-pub returns-then-output-gt-VALUE_LIMIT : goal.returns-then-output-gt-VALUE_LIMIT
-unfolding value_limit
-returns-then-output-gt-VALUE_LIMIT c = sym (output-long _ (omega arith))
-
-pub returns-then-not-rising : goal.returns-then-not-rising
-returns-then-not-rising c =
-    sym (not-rising _ (sym (c.rising.ensures ∙ ap (rising_from 0) c.used.ensures) ∙ not-true _ c.if-not-rising.true-raw))
-
-pub returns-then-not-at_most : goal.returns-then-not-at_most
+numbers : (c : Joined-rising) → let a = c.args in let s = snapshot a.machine a.addresses.now a.numbers.now a.moments.now a.tape.now a.output.now in c.if-sizes_fit.value ≡ (sizes_fit s && rising_from 0 (used_addresses s))
+    → c.if-rising.value ≡ ((sizes_fit s && rising_from 0 (used_addresses s)) && every is_storable (used_numbers s))
 unfolding p
-returns-then-not-at_most c =
-    sym (number-above _ (sym (c.at_most.ensures ∙ ap (every (λ n. leb n p)) c.used-2.ensures) ∙ not-true _ c.if-not-at_most.true-raw))
+numbers c f =
+    elim c.if-rising.branch [
+      | then-rising w ↦ passed f w.if-rising.true (w.value-is ∙ w.at_most.ensures ∙ ap (every is_storable) w.used-then-rising.ensures)
+      | else-rising w ↦ failed _ f w.if-rising.false w.value-is
+    ]
 
-pub returns : goal.returns
-unfolding p clock_end cell_limit value_limit
-returns c =
-    moments-decide _
-    (omega arith)
-    (omega arith)
-    (omega arith)
-    (omega arith)
-    (omega arith)
-    (omega arith)
-    (omega arith)
-    (omega arith)
-    (omega arith)
-    (sym (c.rising.ensures ∙ ap (rising_from 0) c.used.ensures) ∙ not-false _ c.if-not-rising.false-raw)
-    (sym (c.at_most.ensures ∙ ap (every (λ n. leb n p)) c.used-2.ensures) ∙ not-false _ c.if-not-at_most.false-raw)
-    (c.at_most-2.ensures ∙ ap (every (λ n. leb n _)) c.used-3.ensures)
+pub returns-then-at_most : goal.returns-then-at_most
+returns-then-at_most c =
+    let r = goal.at.returns-then-at_most c in
+    let f = numbers r.Joined-rising (addresses r.Joined-sizes_fit (sizes r.Joined-tape-le-VALUE_LIMIT)) in
+    c.at_most-then-at_most.ensures
+    ∙ ap (every (λ t. leb t c.args.machine.clk)) c.used-then-at_most.ensures
+    ∙ sym (plain-decided _ (sym f ∙ c.if-at_most.true))
+
+pub returns-else-at_most : goal.returns-else-at_most
+returns-else-at_most c =
+    let r = goal.at.returns-else-at_most c in
+    let f = numbers r.Joined-rising (addresses r.Joined-sizes_fit (sizes r.Joined-tape-le-VALUE_LIMIT)) in
+    c.if-at_most.false ∙ sym (plain-refused _ (sym f ∙ c.if-at_most.false))

@@ -1,93 +1,69 @@
 -- `looking::look` meets its contract: nothing is seen where nothing starts or an operand is refused, else what the row and the values say.
-use Prim.Native.Nat.{ℕ}
-use mathlib.Core.Path.{◌≡◌, refl, sym, subst, ◌∙◌}
-use mathlib.Core.List.{List}
-use native.Mathlib.Omega.{arith}
-use lib.ListN.{length, take}
-use borrow.Author.Rules.{rules}
-use Rattle.rules.specs.Handed.{snapshot}
-use Rattle.program.specs.declared.table.Row.{Row}
-use Rattle.program.specs.Table.{program_of, Standing, TableOf}
-use Rattle.program.proofs.Fetching.{Placed, placed}
-use Rattle.interpreter.proofs.Preparing.{row_within}
-use Rattle.looking.specs.Looks.{Prepares, Looks}
+use Rattle.std.specs.Prelude.{false, Ok, Err}
+use mathlib.Core.Path.{◌≡◌, sym, ap, subst, ◌∙◌}
+use lib.ListN.{get_or, take}
+use Rattle.rules.specs.Operands.{instruction_at}
+use Rattle.rules.specs.Handed.{snapshot, no_marks}
+use Rattle.program.specs.Table.{program_of, Says}
+use Rattle.operands.specs.Meanings.{Computes}
+use Rattle.effects.specs.declared.Mode.{Mode}
+use Rattle.effects.specs.Deciding.{AtRow}
+use Rattle.interpreter.proofs.Preparing.{simple-fetched, computed-fetched}
+use Rattle.looking.specs.Looks.{absent_below, sight_of, Looks}
 use Rattle.looking.proofs.Sights.{outside-looks, refused-looks, seen-looks}
 use Rattle.looking.proofs.look.Goals as goal
-use Rattle.looking.proofs.look.Goals.{After-load_values}
+use Rattle.looking.proofs.look.Goals.{in-Some-frame+in_default-compute, in_default-frame, In-Some, Joined-frame}
 
--- where the operands are to be made ready
-module _ (c : After-load_values) where
-  abbrev row : Row
-  row = c.in-At.row
+said : (c : In-Some) → let a = c.args in Says a.program.words.now a.machine.pc c.in-Some.row.now (instruction_at (program_of a.program.words.now) a.machine.pc)
+said c = c.in-Some.ensures
 
-  table : TableOf c.args.words.now c.args.rows.now
-  table = c.requires.loaded.table
+abbrev plain : Mode
+plain = record { guarded = false; extras = no_marks }
 
-  at : Placed c.args.rows.now c.args.machine.pc row
-  at =
-      placed table c.args.machine.pc (sym c.in-At.is ∙ c.row_at.ensures)
+-- the operands stand at their slots, and the registers stay
+abbrev Stood : Joined-frame → Type 0
+Stood c =
+    let a = c.args in
+    AtRow plain a.machine.psp a.program.words.now c.in-Some.row.now c.match-frame.values a.machine.pc
+    × (take 10 c.match-frame.values ≡ a.machine.registers)
 
-  -- the values as they are loaded
-  abbrev loaded : List ℕ
-  loaded = c.load_values.new.values
+stood : (c : Joined-frame) (says : let a = c.args in Says a.program.words.now a.machine.pc c.in-Some.row.now (instruction_at (program_of a.program.words.now) a.machine.pc)) → Stood c
+stood c says =
+    let a = c.args in
+    let ws = a.program.words.now in
+    let row = c.in-Some.row.now in
+    let vs = c.load_values.new.values in
+    let st = c.load_values.ensures.0 in
+    elim c.match-frame.branch [
+      | in-Some-frame+in_default-compute w ↦
+          let x : Computes ws w.in-Some-frame.place row.op0 false vs (Ok tt) w.compute.new.values = rw (sym w.in_default-compute.is) w.compute.ensures in
+          rw w.values-is
+          (computed-fetched ws a.machine.pc row says w.in-Some-frame.place (sym c.frame.ensures ∙ w.in-Some-frame.is) plain a.machine.psp vs st x, x.registers ∙ c.load_values.ensures.1)
+      | in_default-frame w ↦
+          rw w.values-is
+          (simple-fetched ws a.machine.pc row says plain a.machine.psp vs st (sym c.frame.ensures ∙ w.in_default-frame.is), c.load_values.ensures.1)
+    ]
 
-  standing : Standing c.args.machine.psp c.args.words.now loaded
-  standing = c.load_values.ensures.0
+pub returns-in_default-clause-looks : goal.returns-in_default-clause-looks
+returns-in_default-clause-looks c ns ms tape output level moment_level =
+    let a = c.args in
+    outside-looks a.program.words.now a.machine a.addresses.now ns ms tape output c.in_default.ensures
 
-  kept : take 10 loaded ≡ c.args.machine.registers
-  kept = c.load_values.ensures.1
+pub returns-in-Err-clause-looks : goal.returns-in-Err-clause-looks
+returns-in-Err-clause-looks c ns ms tape output level moment_level =
+    let a = c.args in
+    let ws = a.program.words.now in
+    let x : Computes ws c.in-Some-frame.place c.in-Some.row.now.op0 false c.load_values.new.values (Err c.in-Err.field-0) c.compute.new.values =
+    rw (sym c.in-Err.is) c.compute.ensures in
+    refused-looks ws a.machine a.addresses.now ns ms tape output c.in-Some.row.now (said (goal.at.returns-in-Err-clause-looks c).In-Some) c.load_values.new.values
+    c.load_values.ensures.0 c.load_values.ensures.1 c.in-Some-frame.place (sym c.frame.ensures ∙ c.in-Some-frame.is) c.in-Err.field-0 c.compute.new.values x
 
-  same : length loaded ≡ length c.args.values.now
-  same = search rules
-
-pub returns-in_default : goal.returns-in_default
-returns-in_default c = record {
-  looks = λ ns ms tape output level moment_level.
-      let a = c.args in
-      subst (Looks (program_of a.words.now) (snapshot a.machine a.addresses.now ns ms tape output)) (sym c.nothing.ensures)
-      (outside-looks c.requires.loaded.table a.machine a.addresses.now ns ms tape output
-      (sym c.in_default.is ∙ c.row_at.ensures));
-  values_len_unchanged = refl;
-}
-
-pub prepare-requires : goal.prepare-requires
-prepare-requires c =
-    let p = (at (goal.at.prepare-requires c).After-load_values).at in
-    record {
-      loaded = c.requires.loaded;
-      words_in_bounds = (standing (goal.at.prepare-requires c).After-load_values).long;
-      at_value = omega arith;
-      at_in_bounds = (at (goal.at.prepare-requires c).After-load_values).within;
-    }
-
-pub look_at-requires : goal.look_at-requires
-look_at-requires c =
-    let p = c.prepare.ensures in
-    record {
-      within = row_within (table (goal.at.look_at-requires c).After-load_values) (at (goal.at.look_at-requires c).After-load_values) (p.standing c.args.machine.psp (standing (goal.at.look_at-requires c).After-load_values));
-      rising = c.requires.rising;
-    }
-
-pub returns-in-Refused : goal.returns-in-Refused
-returns-in-Refused c =
-    let p = c.prepare.ensures in
-    let a = c.args in record {
-      looks = λ ns ms tape output level moment_level.
-          subst (Looks (program_of a.words.now) (snapshot a.machine a.addresses.now ns ms tape output))
-          (sym c.nothing-in-Refused.ensures)
-          (refused-looks (table (goal.at.returns-in-Refused c).After-load_values) a.machine a.addresses.now ns ms tape output (row (goal.at.returns-in-Refused c).After-load_values) (at (goal.at.returns-in-Refused c).After-load_values) (loaded (goal.at.returns-in-Refused c).After-load_values) (standing (goal.at.returns-in-Refused c).After-load_values) (kept (goal.at.returns-in-Refused c).After-load_values) p _
-          c.in-Refused.is);
-      values_len_unchanged = p.size ∙ same (goal.at.returns-in-Refused c).After-load_values;
-    }
-
-pub returns-in-Ready : goal.returns-in-Ready
-returns-in-Ready c =
-    let a = c.args in record {
-      looks = λ ns ms tape output level moment_level.
-          seen-looks (table (goal.at.returns-in-Ready c).After-load_values) a.machine a.addresses.now ns ms tape output (row (goal.at.returns-in-Ready c).After-load_values) (at (goal.at.returns-in-Ready c).After-load_values) (loaded (goal.at.returns-in-Ready c).After-load_values) (standing (goal.at.returns-in-Ready c).After-load_values) (kept (goal.at.returns-in-Ready c).After-load_values)
-          level moment_level
-          (subst (λ r. Prepares a.words.now a.rows.now (row (goal.at.returns-in-Ready c).After-load_values) (loaded (goal.at.returns-in-Ready c).After-load_values) r c.prepare.new.values)
-          c.in-Ready.is c.prepare.ensures)
-          c.look_at.ensures;
-      values_len_unchanged = c.prepare.ensures.size ∙ same (goal.at.returns-in-Ready c).After-load_values;
-    }
+pub returns-clause-looks : goal.returns-clause-looks
+returns-clause-looks c ns ms tape output level moment_level =
+    let at = goal.at.returns-clause-looks c in
+    let a = c.args in
+    let ws = a.program.words.now in
+    let s = stood at.Joined-frame (said at.In-Some) in
+    subst (Looks (program_of ws) (snapshot a.machine a.addresses.now ns ms tape output))
+    (sym (c.look_at.ensures ∙ ap (λ l. sight_of c.in-Some.row.now (absent_below l (get_or a.machine.registers 9 0)) c.match-frame.values) c.of-used.ensures))
+    (seen-looks ws a.machine a.addresses.now ns ms tape output c.in-Some.row.now (said at.In-Some) c.match-frame.values c.requires.rising level moment_level s.0 s.1)

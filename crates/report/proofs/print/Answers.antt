@@ -9,17 +9,14 @@ pub returns-then-is_entry_refusal : goal.returns-then-is_entry_refusal
 unfolding reported
 returns-then-is_entry_refusal c =
     let a = c.args in
-    let l = c.label_of-label in
     let entry = sym c.is_entry_refusal.ensures ∙ c.if-is_entry_refusal.true in
-    let e = shown-entry a.steps a.machine a.output.now l.ensures entry in
-    writes_as (e ∙ sym (ap (lines_from l.result 0 0 0) c.used_output.ensures)) c.put_lines.ensures
+    writes_as (shown-entry a.steps a.machine a.output.now c.from-label.ensures entry) c.put_lines.ensures
 
 pub returns : goal.returns
 unfolding reported
 returns c =
     let a = c.args in
     let m = a.machine in
-    let l = c.label_of-label in
+    let l = c.from-label in
     let entry = sym c.is_entry_refusal.ensures ∙ c.if-is_entry_refusal.false in
-    let e = shown a.steps m a.output.now l.ensures entry in
-    writes_as (e ∙ sym (ap (lines_from l.result a.steps m.pc m.clk) c.used_output-2.ensures)) c.put_lines-2.ensures
+    writes_as (shown a.steps m a.output.now l.ensures entry ∙ sym (ap (lines_from l.result a.steps m.pc m.clk) c.used_output.ensures)) c.put_lines-2.ensures

@@ -1,4 +1,5 @@
 -- Refusal 2 carries the earliest malformed frame.
+use Rattle.std.specs.Prelude.{Option, Some, None}
 use Prim.Native.Nat.{ℕ, zero, suc, ◌≤◌}
 use mathlib.Core.Path.{◌≡◌, refl, sym, ap, ◌∙◌}
 use mathlib.Core.Bool.{Bool, true, false, not, ◌&&◌}
@@ -6,8 +7,6 @@ use mathlib.Core.List.{List, [], ◌∷◌, ◌++◌, map, append-nil}
 use native.Mathlib.Omega.{arith}
 use lib.Dec.{leb}
 use lib.ListN.{length}
-use Rattle.rules.specs.declared.Frame.{Frame}
-use Rattle.rules.specs.declared.Frame.TheVariants.{Holds, Malformed}
 use Rattle.rules.specs.declared.Instruction.{Instruction}
 use Rattle.rules.specs.declared.Refusal.{Refusal}
 use Rattle.rules.specs.declared.Refusal.TheVariants.{BadLength, MalformedFrame, BadState}
@@ -73,13 +72,13 @@ earliest-is-least =
 
 -- Bare words have one malformed frame at most
 
-one-of-frame : (n : ℕ) (f : Frame) (fs : List Frame) {r q : ℕ}
+one-of-frame : (n : ℕ) (f : Option Instruction) (fs : List (Option Instruction)) {r q : ℕ}
     → (MalformedAt (suc n) (map is_malformed fs) r → MalformedAt (suc n) (map is_malformed fs) q → r ≡ q)
     → MalformedAt n (map is_malformed (on_frame f fs)) r → MalformedAt n (map is_malformed (on_frame f fs)) q → r ≡ q
-one-of-frame n (Holds i) fs h (further a) (further b) = h a b
-one-of-frame n Malformed fs h here here = refl
-one-of-frame n Malformed fs h here (further b) = elim b [ ]
-one-of-frame n Malformed fs h (further a) _ = elim a [ ]
+one-of-frame n (Some i) fs h (further a) (further b) = h a b
+one-of-frame n None fs h here here = refl
+one-of-frame n None fs h here (further b) = elim b [ ]
+one-of-frame n None fs h (further a) _ = elim a [ ]
 
 one-of-frames : (n skip : ℕ) (ws : List ℕ) {r q : ℕ}
     → MalformedAt n (map is_malformed (frames_after skip ws)) r → MalformedAt n (map is_malformed (frames_after skip ws)) q → r ≡ q
@@ -132,7 +131,7 @@ unfolding require
 in-length true h = h
 in-length false h = out_of_order
 
-frames-earliest : (fs : List Frame) → LoadsEarliest (record { in_order = count_fits fs; first = 1; malformed = map is_malformed fs }) (load_frames fs)
+frames-earliest : (fs : List (Option Instruction)) → LoadsEarliest (record { in_order = count_fits fs; first = 1; malformed = map is_malformed fs }) (load_frames fs)
 unfolding load_frames
 frames-earliest fs = tests (count_fits fs) 1 (map is_malformed fs) (instructions fs)
 

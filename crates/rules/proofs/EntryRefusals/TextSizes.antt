@@ -1,17 +1,14 @@
 -- How long a text is that is read: its lines have at most 64 digits, and there are at most 512.
+use Rattle.std.specs.Prelude.{Option, Some, None}
 use Prim.Native.Nat.{ℕ, zero, suc, ◌+◌, ◌*◌, ◌/◌, ◌%◌, ◌≤◌}
 use mathlib.Core.Path.{◌≡◌, refl, sym, ap, ◌∙◌}
 use mathlib.Core.Bool.{Bool, true, false, ◌||◌}
 use mathlib.Core.List.{List, [], ◌∷◌, ◌++◌, map}
-use mathlib.Core.Option.{Option, none, some}
 use native.Mathlib.Omega.{arith}
 use lib.Dec.{leb, eqb}
 use lib.ListN.{length, get_or, take, drop, length-append, length-map}
 use borrow.Author.Tests.{leb-true, eqb-true, not-true}
 use Rattle.rules.specs.declared.Instruction.{Instruction}
-use Rattle.rules.specs.declared.HexWord.{HexWord}
-use Rattle.rules.specs.declared.HexWord.TheVariants.{Word, NotHex}
-use Rattle.rules.specs.declared.Frame.TheVariants.{Malformed}
 use Rattle.rules.specs.Numbers.{frame_limit, choose}
 use Rattle.rules.specs.Results.{pass}
 use Rattle.rules.specs.Hexadecimal.{digits_of, word_of}
@@ -33,7 +30,7 @@ four-words : (ws : List ℕ) → is_malformed (exact_frame_of ws) ≡ false → 
 unfolding exact_frame_of
 four-words ws h = go (eqb (length ws) (suc (value_count (get_or ws 0 0)))) refl h
   where
-    go : (t : Bool) → eqb (length ws) (suc (value_count (get_or ws 0 0))) ≡ t → is_malformed (choose t (frame_of ws) Malformed) ≡ false → length ws ≤ 4
+    go : (t : Bool) → eqb (length ws) (suc (value_count (get_or ws 0 0))) ≡ t → is_malformed (choose t (frame_of ws) None) ≡ false → length ws ≤ 4
     go true e h =
         let l = eqb-true (length ws) (suc (value_count (get_or ws 0 0))) e in
         let v = three-values (get_or ws 0 0) in
@@ -41,25 +38,25 @@ four-words ws h = go (eqb (length ws) (suc (value_count (get_or ws 0 0)))) refl 
     go false e h = absurd (false-true (sym h))
 
 -- n words are read as n words
-joined_length : (n : ℕ) (l ws : List ℕ) → joined_words n l ≡ some ws → length ws ≡ n
+joined_length : (n : ℕ) (l ws : List ℕ) → joined_words n l ≡ Some ws → length ws ≡ n
 unfolding joined_words
 joined_length zero l ws e = let z : [] ≡ ws = cc in ap length (sym z)
 joined_length (suc n) l ws e = go (word_of (take 16 l)) (joined_words n (drop 16 l)) (joined_length n (drop 16 l)) e
   where
-    go : (w : HexWord) (r : Option (List ℕ)) → ((us : List ℕ) → r ≡ some us → length us ≡ n) → cons_word w r ≡ some ws → length ws ≡ suc n
-    go NotHex r h e = absurd (let z : ◌≡◌ {A = ℕ} 0 1 = cc in omega arith)
-    go (Word w) none h e = absurd (let z : ◌≡◌ {A = ℕ} 0 1 = cc in omega arith)
-    go (Word w) (some us) h e = let z : w ∷ us ≡ ws = cc in ap length (sym z) ∙ ap suc (h us refl)
+    go : (w : Option ℕ) (r : Option (List ℕ)) → ((us : List ℕ) → r ≡ Some us → length us ≡ n) → cons_word w r ≡ Some ws → length ws ≡ suc n
+    go None r h e = absurd (let z : ◌≡◌ {A = ℕ} 0 1 = cc in omega arith)
+    go (Some w) None h e = absurd (let z : ◌≡◌ {A = ℕ} 0 1 = cc in omega arith)
+    go (Some w) (Some us) h e = let z : w ∷ us ≡ ws = cc in ap length (sym z) ∙ ap suc (h us refl)
 
 line-short : (l : List ℕ) → is_malformed (frame_of_line (ended l)) ≡ false → length l ≤ 64
 unfolding frame_of_line
 line-short l h = go (eqb (length l % 16) 0) refl h
   where
     words : (r : Option (List ℕ)) → joined_words (length l / 16) l ≡ r → is_malformed (frame_of_words r) ≡ false → length l / 16 ≤ 4
-    words none e h = absurd (false-true (sym h))
-    words (some ws) e h = let n = joined_length (length l / 16) l ws e in let f = four-words ws h in omega arith
+    words None e h = absurd (false-true (sym h))
+    words (Some ws) e h = let n = joined_length (length l / 16) l ws e in let f = four-words ws h in omega arith
 
-    go : (t : Bool) → eqb (length l % 16) 0 ≡ t → is_malformed (choose t (frame_of_words (joined_words (length l / 16) l)) Malformed) ≡ false → length l ≤ 64
+    go : (t : Bool) → eqb (length l % 16) 0 ≡ t → is_malformed (choose t (frame_of_words (joined_words (length l / 16) l)) None) ≡ false → length l ≤ 64
     go true e h = let m = eqb-true (length l % 16) 0 e in let q = words (joined_words (length l / 16) l) refl h in omega arith
     go false e h = absurd (false-true (sym h))
 
@@ -112,7 +109,7 @@ budget-short : (l : List ℕ) → is_not_hex (budget_of (ended l)) ≡ false →
 unfolding budget_of word_of
 budget-short l h = go (eqb (length l) 16) refl h
   where
-    go : (t : Bool) → eqb (length l) 16 ≡ t → is_not_hex (choose t (digits_of 0 l) NotHex) ≡ false → length l ≡ 16
+    go : (t : Bool) → eqb (length l) 16 ≡ t → is_not_hex (choose t (digits_of 0 l) None) ≡ false → length l ≡ 16
     go true e h = eqb-true (length l) 16 e
     go false e h = absurd (false-true (sym h))
 
@@ -145,6 +142,6 @@ job-short text job e = go (lines_of text) refl (require-pass _ _ _ e).1
         let counted = require-pass _ _ _ e in
         let formed = require-pass _ _ _ counted.1 in
         let n = frames-at-most ls counted.0 in
-        let none = not-true (is_not_hex (budget_of b) || some_malformed ls) formed.0 in
-        let l = after-budget [] text b ls f (or_left (is_not_hex (budget_of b)) (some_malformed ls) none) (or_right (is_not_hex (budget_of b)) (some_malformed ls) none) in
+        let None = not-true (is_not_hex (budget_of b) || some_malformed ls) formed.0 in
+        let l = after-budget [] text b ls f (or_left (is_not_hex (budget_of b)) (some_malformed ls) None) (or_right (is_not_hex (budget_of b)) (some_malformed ls) None) in
         omega arith

@@ -1,4 +1,5 @@
 -- The theorem: what demand 1 promises holds of every call.
+use Rattle.std.specs.Prelude.{Option}
 use Prim.Native.Nat.{ℕ, ◌+◌, ◌≤◌}
 use mathlib.Core.Path.{◌≡◌, refl, sym, ap, subst}
 use mathlib.Core.Bool.{Bool, true, false}
@@ -6,7 +7,6 @@ use mathlib.Core.List.{List, [], ◌∷◌, map}
 use native.Mathlib.Omega.{arith}
 use lib.ListN.{length}
 use Rattle.rules.specs.declared.Instruction.{Instruction}
-use Rattle.rules.specs.declared.Frame.{Frame}
 use Rattle.rules.specs.declared.Refusal.{Refusal}
 use Rattle.rules.specs.declared.Refusal.TheVariants.{BadState}
 use Rattle.rules.specs.Numbers.{choose}
@@ -28,7 +28,7 @@ use Rattle.rules.proofs.EveryCall.GuardedEnds.{guarded-entered}
 abbrev AtEntry : Refusal → Type 0
 AtEntry f = when (refusal_meaning f) ≡ at_entry
 
-frames-refused : (fs : List Frame) → Refusing AtEntry (load_frames fs)
+frames-refused : (fs : List (Option Instruction)) → Refusing AtEntry (load_frames fs)
 unfolding load_frames refusal_meaning
 frames-refused fs = refusing-require _ _ refl (refusing-require _ _ refl passed)
 

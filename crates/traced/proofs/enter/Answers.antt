@@ -6,8 +6,7 @@ use Rattle.traced.proofs.enter.Goals as goal
 
 pub run-requires : goal.run-requires
 run-requires c = record {
-  loaded = c.requires.loaded;
-  words_in_bounds = c.requires.words_in_bounds;
+  words_in_bounds = c.requires;
   output_value = sym c.accepts.ensures ∙ c.if-accepts.true;
 }
 

@@ -1,23 +1,18 @@
 -- `calling::runs::load_and_enter` meets its contract: the words are loaded and the call is theirs, or they are refused.
-use mathlib.Core.Path.{subst}
-use Rattle.program.specs.WordLoads.{Loads}
+use mathlib.Core.Path.{ap, sym, ◌∙◌}
+use native.Mathlib.Omega.{arith}
+use lib.ListN.{length, length-replicate}
+use Rattle.rules.specs.Frames.{load_words}
 use Rattle.calling.proofs.Answered.{refused-is, load-refused}
 use Rattle.calling.proofs.runs.load_and_enter.Goals as goal
 
-pub enter-requires : goal.enter-requires
-enter-requires c =
-    let l = subst (Loads _ _) c.in-Frames.is c.load_words.ensures in
-    record {
-      loaded = record { loads = l.0; table = l.2 };
-      words_in_bounds = c.requires.words_in_bounds l.2.words;
-      plain_has_no_marks = c.requires.plain_has_no_marks;
-    }
+pub enter-requires-clause-words_in_bounds : goal.enter-requires-clause-words_in_bounds
+enter-requires-clause-words_in_bounds g c =
+    let e = ap length c.in-Ok.ensures in
+    rw length-replicate (omega (arith, e, c.in-Ok.program.loaded.table.words, c.requires.words_in_bounds))
 
-pub returns-in-Frames : goal.returns-in-Frames
-returns-in-Frames c =
-    let l = subst (Loads _ _) c.in-Frames.is c.load_words.ensures in
-    rw l.0 c.enter.ensures
+pub returns-in-Ok : goal.returns-in-Ok
+returns-in-Ok g c = rw (ap load_words (sym c.in-Ok.ensures) ∙ c.in-Ok.program.loaded.loads) c.enter.ensures
 
-pub returns-in-Refused : goal.returns-in-Refused
-returns-in-Refused c =
-    load-refused _ _ _ _ _ _ (subst (Loads _ _) c.in-Refused.is c.load_words.ensures) (refused-is _ _ _ _ _ _ _ _ _ _ c.refuse.ensures)
+pub returns-in-Err : goal.returns-in-Err
+returns-in-Err g c = load-refused _ _ _ _ _ _ c.in-Err.ensures (refused-is _ _ _ _ _ _ _ _ _ _ c.refuse.ensures)

@@ -12,5 +12,5 @@ returns-in_default c = rw (none (is_element c.args.a) (field_complement c.args.a
 pub returns : goal.returns
 unfolding check
 returns c =
-    let e = element (is_element c.args.a) (field_complement c.args.a) c.in-Element.x (sym c.complement.ensures ∙ c.in-Element.is) in
+    let e = element (is_element c.args.a) (field_complement c.args.a) c.in-Some.x (sym c.complement.ensures ∙ c.in-Some.is) in
     rw (e.0, ← e.1) c.set_register.ensures

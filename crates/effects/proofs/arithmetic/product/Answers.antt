@@ -5,4 +5,4 @@ pub returns-in_default : goal.returns-in_default
 returns-in_default c = rw c.in_default.is c.refuse.ensures
 
 pub returns : goal.returns
-returns c = rw c.in-Element.is c.set_product.ensures
+returns c = rw c.in-Some.is c.set_product.ensures

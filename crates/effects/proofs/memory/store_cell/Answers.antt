@@ -1,40 +1,24 @@
 -- `effects::memory::store_cell` meets its contract: the tests, then the place, then capacity for a new cell.
-use mathlib.Core.Path.{◌≡◌, sym, ◌∙◌}
+use Rattle.std.specs.Prelude.{Ok}
+use mathlib.Core.Path.{◌≡◌, sym, ap, ◌∙◌}
 use native.Mathlib.Omega.{arith}
-use lib.ListN.{take}
-use Rattle.effects.specs.declared.memory.Tested.TheVariants.{Passes}
+use borrow.Author.Rules.{rules}
+use Rattle.hardware.specs.Buffers.{found_of}
 use Rattle.effects.specs.Changes.{check}
 use Rattle.effects.specs.Operations.{test_of}
-use Rattle.effects.proofs.StoreTests.{capacity-present, capacity-new, capacity-none}
+use Rattle.effects.proofs.StoreTests.{capacity-none}
 use Rattle.effects.proofs.memory.store_cell.Goals as goal
-use Rattle.effects.proofs.memory.store_cell.Goals.{In-Passes}
+use Rattle.effects.proofs.memory.store_cell.Goals.{In_default}
 
--- the tests passed
-passes : (c : In-Passes) → let a = c.args in test_of a.address a.number ≡ Passes
-passes c = sym c.test_store.ensures ∙ c.in-Passes.is
+pub returns-in-Err : goal.returns-in-Err
+returns-in-Err c = rw (sym c.test_store.ensures ∙ c.in-Err.is) (c.refuse.ensures _)
 
-pub returns-then-count-addresses : goal.returns-then-count-addresses
+pub returns-in-Err-2 : goal.returns-in-Err-2
 unfolding check
-returns-then-count-addresses c =
+returns-in-Err-2 c =
     let s = c.args in
-    let e = sym c.in-Absent.is ∙ c.find.ensures in
-    rw (passes (goal.at.returns-then-count-addresses c).In-Passes, capacity-new s.count s.addresses.now s.address _ (omega arith) (sym e))
-    (c.insert.ensures (take s.count s.addresses.now) e)
-
-pub returns-in-Refused : goal.returns-in-Refused
-returns-in-Refused c = rw (sym c.test_store.ensures ∙ c.in-Refused.is) (c.refuse.ensures _)
-
-pub returns-in-At : goal.returns-in-At
-unfolding check
-returns-in-At c =
-    let e = sym c.in-At.is ∙ c.find.ensures in
-    rw (passes (goal.at.returns-in-At c).In-Passes, capacity-present c.args.count c.args.addresses.now c.args.address _ c.requires.within (sym e))
-    (c.store_at.ensures (take c.args.count c.args.addresses.now) e)
-
-pub returns-else-count-addresses : goal.returns-else-count-addresses
-unfolding check
-returns-else-count-addresses c =
-    let s = c.args in
-    let e = sym c.in-Absent.is ∙ c.find.ensures in
-    rw (passes (goal.at.returns-else-count-addresses c).In-Passes, capacity-none s.count s.addresses.now s.address _ (omega arith) (sym e))
-    (c.refuse-in-Absent.ensures _)
+    let l = s.cells.addresses.now in
+    let e = sym (c.find.ensures ∙ ap (λ l. found_of l s.address) c.used.ensures) ∙ c.in-Err-2.is in
+    let passes : test_of s.address s.number ≡ Ok tt = search rules in
+    rw (passes, capacity-none s.cells.count l s.address _ (omega arith) e)
+    (c.refuse-in-Err-2.ensures _)

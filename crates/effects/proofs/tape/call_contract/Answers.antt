@@ -1,49 +1,42 @@
--- `effects::tape::call_contract` meets its contract: the span, its sink, capacity of the tape.
-use Prim.Native.Nat.{◌+◌}
-use mathlib.Core.Path.{sym, ◌∙◌}
-use native.Mathlib.Omega.{arith}
-use lib.ListN.{length}
-use borrow.Author.Tests.{le-leb, lt-leb}
+-- `effects::tape::call_contract` meets its contract: the span, its sink, room on the tape.
+use mathlib.Core.Path.{◌≡◌, sym, ap, ◌∙◌}
+use Rattle.effects.specs.Views.{used_addresses}
 use Rattle.effects.specs.Changes.{check, sink_where}
+use Rattle.effects.specs.Operations.{span_among}
 use Rattle.effects.proofs.Spans.{among-within}
 use Rattle.effects.proofs.tape.call_contract.Goals as goal
+use Rattle.effects.proofs.tape.call_contract.Goals.{After-find_cells}
 
-pub is_part_marked-requires : goal.is_part_marked-requires
-is_part_marked-requires c =
-    λ t.
-    let h = among-within c.args.count c.args.addresses.now c.requires.rising c.args.start 4 c.in-At.at (sym c.in-At.is ∙ c.find_cells.ensures) in
-    let w = c.requires.rising.within in
-    let k = c.requires.marks_len t in
-    omega arith
+found : (c : After-find_cells) → span_among (used_addresses c.args.seen.now) c.args.start 4 ≡ c.find_cells.result
+found c = sym (c.find_cells.ensures ∙ ap (λ l. span_among l c.args.start 4) c.used.ensures)
 
-pub returns-then-is_part_marked : goal.returns-then-is_part_marked
+pub returns-in-Err : goal.returns-in-Err
+returns-in-Err c = rw (found (goal.at.returns-in-Err c).After-find_cells ∙ c.in-Err.is) c.refuse.ensures
+
+pub any_marked-requires : goal.any_marked-requires
+any_marked-requires c =
+    let b = c.args.seen.now.cells in
+    among-within b.count b.addresses.now b.ordered.addresses c.args.start 4 c.in-Ok.at (sym (found (goal.at.any_marked-requires c).After-find_cells ∙ c.in-Ok.is))
+
+pub returns-then-any_marked : goal.returns-then-any_marked
 unfolding sink_where
-returns-then-is_part_marked c =
-    rw (← c.find_cells.ensures, c.in-At.is, ← c.is_part_marked.ensures, c.if-is_part_marked.true) c.sink.ensures
+returns-then-any_marked c =
+    rw (found (goal.at.returns-then-any_marked c).After-find_cells ∙ c.in-Ok.is, sym c.any_marked.ensures ∙ c.if-any_marked.true) c.sink.ensures
 
-pub returns-then-tape-used-lt12 : goal.returns-then-tape-used-lt12
+pub returns-then-not-has_room : goal.returns-then-not-has_room
 unfolding sink_where check
-returns-then-tape-used-lt12 c =
-    let s = c.args in
+returns-then-not-has_room c =
     rw (
-      ← c.find_cells.ensures,
-      c.in-At.is,
-      ← c.is_part_marked.ensures,
-      c.if-is_part_marked.false,
-      lt-leb (s.used + 12) (length s.tape.now) (omega arith),
-    ) c.refuse-then-tape-used-lt12.ensures
+      found (goal.at.returns-then-not-has_room c).After-find_cells ∙ c.in-Ok.is,
+      sym c.any_marked.ensures ∙ c.if-any_marked.false,
+      sym c.has_room.ensures ∙ c.if-not-has_room.true,
+    ) c.refuse-then-not-has_room.ensures
 
-pub returns-in-Refused : goal.returns-in-Refused
-returns-in-Refused c = rw (← c.find_cells.ensures, c.in-Refused.is) c.refuse.ensures
-
-pub returns-else-tape-used-lt12 : goal.returns-else-tape-used-lt12
+pub returns : goal.returns
 unfolding sink_where check
-returns-else-tape-used-lt12 c =
-    let s = c.args in
+returns c =
     rw (
-      ← c.find_cells.ensures,
-      c.in-At.is,
-      ← c.is_part_marked.ensures,
-      c.if-is_part_marked.false,
-      le-leb (s.used + 12) (length s.tape.now) (omega arith),
+      found (goal.at.returns c).After-find_cells ∙ c.in-Ok.is,
+      sym c.any_marked.ensures ∙ c.if-any_marked.false,
+      sym c.has_room.ensures ∙ c.if-not-has_room.false,
     ) c.call_contract.ensures

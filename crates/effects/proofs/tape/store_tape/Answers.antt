@@ -1,63 +1,47 @@
--- `effects::tape::store_tape` meets its contract: the span, its sink, capacity of tape and output.
-use Prim.Native.Nat.{◌+◌}
-use mathlib.Core.Path.{sym, ◌∙◌}
-use native.Mathlib.Omega.{arith}
-use lib.ListN.{length}
-use borrow.Author.Tests.{le-leb, lt-leb}
+-- `effects::tape::store_tape` meets its contract: the span, its sink, room on tape and output.
+use mathlib.Core.Path.{◌≡◌, sym, ap, ◌∙◌}
+use Rattle.effects.specs.Views.{used_addresses}
 use Rattle.effects.specs.Changes.{check, sink_where}
+use Rattle.effects.specs.Operations.{span_among}
 use Rattle.effects.proofs.Spans.{among-within}
 use Rattle.effects.proofs.tape.store_tape.Goals as goal
+use Rattle.effects.proofs.tape.store_tape.Goals.{After-find_cells, then-not-has_room-via-then-not-has_room, then-not-has_room-via-else-not-has_room+then-not-has_room-2}
 
-pub is_part_marked-requires : goal.is_part_marked-requires
-is_part_marked-requires c =
-    λ t.
-    let h = among-within c.args.count c.args.addresses.now c.requires.rising c.args.start c.args.n c.in-At.at (sym c.in-At.is ∙ c.find_cells.ensures) in
-    let w = c.requires.rising.within in
-    let k = c.requires.marks_len t in
-    omega arith
+found : (c : After-find_cells) → span_among (used_addresses c.args.seen.now) c.args.start c.args.n ≡ c.find_cells.result
+found c = sym (c.find_cells.ensures ∙ ap (λ l. span_among l c.args.start c.args.n) c.used.ensures)
 
-pub returns-then-is_part_marked : goal.returns-then-is_part_marked
+pub returns-in-Err : goal.returns-in-Err
+returns-in-Err c = rw (found (goal.at.returns-in-Err c).After-find_cells ∙ c.in-Err.is) c.refuse.ensures
+
+pub any_marked-requires : goal.any_marked-requires
+any_marked-requires c =
+    let b = c.args.seen.now.cells in
+    among-within b.count b.addresses.now b.ordered.addresses c.args.start c.args.n c.in-Ok.at (sym (found (goal.at.any_marked-requires c).After-find_cells ∙ c.in-Ok.is))
+
+pub returns-then-any_marked : goal.returns-then-any_marked
 unfolding sink_where
-returns-then-is_part_marked c =
-    rw (← c.find_cells.ensures, c.in-At.is, ← c.is_part_marked.ensures, c.if-is_part_marked.true) c.sink.ensures
+returns-then-any_marked c =
+    rw (found (goal.at.returns-then-any_marked c).After-find_cells ∙ c.in-Ok.is, sym c.any_marked.ensures ∙ c.if-any_marked.true) c.sink.ensures
 
-pub returns-then-tape-used : goal.returns-then-tape-used
+pub returns-then-not-has_room : goal.returns-then-not-has_room
 unfolding sink_where check
-returns-then-tape-used c =
-    let s = c.args in
-    rw (
-      ← c.find_cells.ensures,
-      c.in-At.is,
-      ← c.is_part_marked.ensures,
-      c.if-is_part_marked.false,
-      lt-leb (s.used + s.n) (length s.tape.now) (omega arith),
-    ) c.refuse-then-tape-used.ensures
+returns-then-not-has_room c =
+    let f = found (goal.at.returns-then-not-has_room c).After-find_cells ∙ c.in-Ok.is in
+    let m = sym c.any_marked.ensures ∙ c.if-any_marked.false in
+    elim c.then-not-has_room.branch [
+      | then-not-has_room-via-then-not-has_room w ↦
+          rw (f, m, sym c.has_room.ensures ∙ w.if-not-has_room.true) c.refuse-then-not-has_room.ensures
+      | then-not-has_room-via-else-not-has_room+then-not-has_room-2 w ↦
+          rw (f, m, sym c.has_room.ensures ∙ w.if-not-has_room.false, sym w.has_room-else-not-has_room.ensures ∙ w.if-not-has_room-2.true)
+          c.refuse-then-not-has_room.ensures
+    ]
 
-pub returns-then-output-shown : goal.returns-then-output-shown
+pub returns : goal.returns
 unfolding sink_where check
-returns-then-output-shown c =
-    let s = c.args in
+returns c =
     rw (
-      ← c.find_cells.ensures,
-      c.in-At.is,
-      ← c.is_part_marked.ensures,
-      c.if-is_part_marked.false,
-      le-leb (s.used + s.n) (length s.tape.now) (omega arith),
-      lt-leb (s.shown + s.n) (length s.output.now) (omega arith),
-    ) c.refuse-then-output-shown.ensures
-
-pub returns-in-Refused : goal.returns-in-Refused
-returns-in-Refused c = rw (← c.find_cells.ensures, c.in-Refused.is) c.refuse.ensures
-
-pub returns-else-output-shown : goal.returns-else-output-shown
-unfolding sink_where check
-returns-else-output-shown c =
-    let s = c.args in
-    rw (
-      ← c.find_cells.ensures,
-      c.in-At.is,
-      ← c.is_part_marked.ensures,
-      c.if-is_part_marked.false,
-      le-leb (s.used + s.n) (length s.tape.now) (omega (arith, c.requires.used_in_bounds)),
-      le-leb (s.shown + s.n) (length s.output.now) (omega arith),
+      found (goal.at.returns c).After-find_cells ∙ c.in-Ok.is,
+      sym c.any_marked.ensures ∙ c.if-any_marked.false,
+      sym c.has_room.ensures ∙ c.if-not-has_room.false,
+      sym c.has_room-else-not-has_room.ensures ∙ c.if-not-has_room-2.false,
     ) c.store_tape.ensures

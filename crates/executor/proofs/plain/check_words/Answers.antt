@@ -1,15 +1,9 @@
--- `executor::plain::check_words` meets its contract: it is the core's call in its mode.
-use mathlib.Core.List.{[]}
-use Rattle.rules.specs.declared.Marks.{Marks}
-use Rattle.rules.specs.Frames.{load_words}
+-- `executor::plain::check_words` meets its contract: it is the core's check in its mode. Written out, so that an edit of the mode is refused
+-- by the difference itself.
 use Rattle.rules.specs.Calls.{plain_words}
-use Rattle.rules.specs.Handed.{guarded_snapshot}
-use Rattle.executor.proofs.ByMode.{checks-plain}
+use Rattle.checking.specs.ModeCalls.{mode_call}
 use Rattle.executor.proofs.plain.check_words.Goals as goal
 
 pub returns : goal.returns
-unfolding plain_words
-returns c =
-    let a = c.args in
-    checks-plain (load_words a.words.now) 0 (λ (m : Marks). guarded_snapshot a.machine m a.addresses.now a.numbers.now a.moments.now [] a.tape.now a.output.now)
-    c.mode.ensures c.check_words.ensures
+unfolding mode_call plain_words
+returns c = c.check.ensures

@@ -1,11 +1,6 @@
--- `ola::plain_calls::ola_check_text` meets its contract: the machine is read from its record, and the answer's record is written.
-use Rattle.rules.specs.Calls.{plain_text}
-use Rattle.ola.proofs.LeftLaws.{plain-checked}
+-- `ola::plain_calls::ola_check_text` meets its contract: the machine is read from its record, and the answer's record is written. Written
+-- out, so that an edit of the contract is refused by the difference itself.
 use Rattle.ola.proofs.plain_calls.ola_check_text.Goals as goal
 
 pub returns : goal.returns
-returns c =
-    plain-checked _ (plain_text _ 0)
-    c.machine_of.ensures
-    c.check_text-given.ensures
-    c.answer_record.ensures
+returns c = rw (c.answer_record.ensures, c.check_text-given.ensures, c.machine_of.ensures)

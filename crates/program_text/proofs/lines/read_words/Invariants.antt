@@ -1,11 +1,7 @@
--- `program_text::lines::read_words` meets its contract. The loop keeps `Joined`, and the words that are left are the measure.
-use Prim.Native.Nat.{◌-◌}
-use lib.ListN.{drop}
+-- The words before this place are in the buffer.
+use Rattle.std.proofs.Common.{◌/◌, length}
 use Rattle.program_text.proofs.Joining.{Joined}
 use Rattle.program_text.proofs.lines.read_words.Given as goal
 
 abbrev pub invariant-loop-i : goal.invariant-loop-i
-invariant-loop-i l = Joined (drop l.at l.text) l.count l.used l.initial.words l.words l.i
-
-abbrev pub decreases-loop-i : goal.decreases-loop-i
-decreases-loop-i l = l.count - l.i
+invariant-loop-i l = Joined l.digits (length l.digits / 16) l.used l.initial.words l.words l.i

@@ -13,6 +13,7 @@ use Rattle.report.specs.Placing.{Placed}
 use Rattle.report.specs.ReportLines.{first_line, lines_from}
 use Rattle.report.proofs.Placing.{Rest, placed-writes, rest_all, rest-after}
 use Rattle.report.proofs.lines.put_lines.Goals as goal
+use Rattle.report.proofs.lines.put_lines.Goals.{Else-not-values_fit}
 
 -- the two parts, and their lengths
 module _ (first others buffer : List ℕ) {n : ℕ} (e : n ≡ length first) where
@@ -32,38 +33,37 @@ left : (first others buffer : List ℕ) {from : ℕ} {after : List ℕ}
     → Rest (first ++ others) buffer 0 others after from
 left first others buffer h = rest-after first others (rest_all h)
 
-pub returns-then-buffer-first : goal.returns-then-buffer-first
+pub returns-in_err-others : goal.returns-in_err-others
 unfolding lines_from
-returns-then-buffer-first c =
-    let a = c.args in
-    let first = first_line a.label a.steps a.pc a.clk in
-    let others = value_lines a.values.now in
-    no-space a.buffer.now 0 (first ++ others) (too-long-first first others a.buffer.now c.first_line_length-first.ensures c.if-buffer-first.true)
+returns-in_err-others c =
+    let f = c.args.first in
+    let first = first_line f.label f.steps f.pc f.clk in
+    let others = value_lines c.args.values.now in
+    let short : length c.args.buffer.now < c.length.result = omega (arith, c.in_err-others.ensures) in
+    rw c.from_residual.ensures (no-space c.args.buffer.now 0 (first ++ others) (too-long-first first others c.args.buffer.now c.length.ensures short))
 
 pub returns-then-not-values_fit : goal.returns-then-not-values_fit
 unfolding lines_from
 returns-then-not-values_fit c =
-    let a = c.args in
-    let first = first_line a.label a.steps a.pc a.clk in
-    let others = value_lines a.values.now in
-    let t = sym c.values_fit.ensures ∙ c.if-not-values_fit.true in
-    no-space a.buffer.now 0 (first ++ others) (too-long-others first others a.buffer.now c.first_line_length-first.ensures t)
+    let f = c.args.first in
+    let first = first_line f.label f.steps f.pc f.clk in
+    let others = value_lines c.args.values.now in
+    let t = rw c.in_ok-others.ensures.1 at (sym c.values_fit.ensures ∙ c.if-not-values_fit.true) in
+    no-space c.args.buffer.now 0 (first ++ others) (too-long-others first others c.args.buffer.now c.length.ensures t)
+
+-- past the tests all lines fit
+all : (c : Else-not-values_fit) → let f = c.args.first in
+    0 + length (first_line f.label f.steps f.pc f.clk ++ value_lines c.args.values.now) ≤ length c.args.buffer.now
+all c =
+    let f = c.args.first in
+    let t = rw c.in_ok-others.ensures.1 at (sym c.values_fit.ensures ∙ c.if-not-values_fit.false) in
+    fits (first_line f.label f.steps f.pc f.clk) (value_lines c.args.values.now) c.args.buffer.now c.length.ensures c.in_ok-others.ensures.0 t
 
 pub put_values-requires : goal.put_values-requires
-put_values-requires c =
-    let a = c.args in
-    let first = first_line a.label a.steps a.pc a.clk in
-    let others = value_lines a.values.now in
-    let t = sym c.values_fit.ensures ∙ c.if-not-values_fit.false in
-    let h = fits first others a.buffer.now c.first_line_length-first.ensures c.if-buffer-first.false t in
-    (left first others a.buffer.now h c.put_first_line-from.ensures).fits
+put_values-requires c = (left _ _ c.args.buffer.now (all (goal.at.put_values-requires c).Else-not-values_fit) c.put-from.ensures).fits
 
 pub returns : goal.returns
 unfolding lines_from
 returns c =
-    let a = c.args in
-    let first = first_line a.label a.steps a.pc a.clk in
-    let others = value_lines a.values.now in
-    let t = sym c.values_fit.ensures ∙ c.if-not-values_fit.false in
-    let h = fits first others a.buffer.now c.first_line_length-first.ensures c.if-buffer-first.false t in
-    placed-writes h ((left first others a.buffer.now h c.put_first_line-from.ensures).whole c.put_values.ensures)
+    let h = all (goal.at.returns c).Else-not-values_fit in
+    placed-writes h ((left _ _ c.args.buffer.now h c.put-from.ensures).whole c.put_values.ensures)

@@ -1,51 +1,34 @@
--- `report::lines::put_values` meets its contract. The loop's invariant: the lines of the values from i on are left.
-use mathlib.Core.Path.{refl, ◌∙◌, subst}
+-- `report::lines::put_values` meets its contract. The loop's invariant: the lines of the values from this place on are left.
+use mathlib.Core.Path.{subst}
 use mathlib.Core.List.{List, ◌++◌}
-use Prim.Native.Nat.{ℕ, ◌+◌, ◌≤◌}
-use native.Mathlib.Omega.{arith}
-use lib.ListN.{length, get_or, drop}
+use Prim.Native.Nat.{ℕ, ◌+◌}
+use lib.ListN.{get_or, drop}
 use Rattle.rules.specs.Solve.{value_lines}
 use Rattle.report.specs.ReportLines.{value_line}
-use Rattle.report.proofs.Placing.{Rest, placed-none, placed-as, placed-length, rest_all, first_fits, rest-after}
+use Rattle.report.proofs.Placing.{Rest, placed-none, placed-as, rest_all, first_fits, rest-after}
 use Rattle.report.proofs.Lengths.{next-value, no_value}
 use Rattle.report.proofs.lines.put_values.Goals as goal
-use Rattle.report.proofs.lines.put_values.Goals.{In-loop-i}
+use Rattle.report.proofs.lines.put_values.Goals.{In-loop-v}
 
-pub loop-i-init : goal.loop-i-init
-loop-i-init c = (refl, rest_all c.requires)
+pub loop-v-init : goal.loop-v-init
+loop-v-init c = rest_all c.requires
 
 -- at an iteration: the value's line is left, and those of the values that follow
-module _ (c : In-loop-i) where
-  abbrev values : List ℕ
-  values = c.args.values.now
-
-  abbrev line : List ℕ
-  line = value_line (get_or values c.loop-i.i 0)
-
-  abbrev others : List ℕ
-  others = value_lines (drop (c.loop-i.i + 1) values)
-
-  left : let a = c.args in Rest (value_lines values) a.buffer.now a.from (line ++ others) c.loop-i.buffer c.loop-i.at
-  left =
-      let a = c.args in
-      let l = c.loop-i in
-      subst (λ (rest : List ℕ). Rest (value_lines values) a.buffer.now a.from rest l.buffer l.at) (next-value values l.i (omega arith)) l.invariant.1
-
-  line-fits : c.loop-i.at + length line ≤ length c.loop-i.buffer
-  line-fits = first_fits line others left
+left : (c : In-loop-v) → let a = c.args in
+    let l = c.loop-v in
+    Rest (value_lines a.values.now) a.buffer.now a.from (value_line (get_or a.values.now l.v-index 0) ++ value_lines (drop (l.v-index + 1) a.values.now)) l.buffer l.at
+left c =
+    let a = c.args in
+    let l = c.loop-v in
+    subst (λ (rest : List ℕ). Rest (value_lines a.values.now) a.buffer.now a.from rest l.buffer l.at) (next-value a.values.now l.v-index c.loop-v-test.true) l.invariant
 
 pub put_value-at-requires : goal.put_value-at-requires
-put_value-at-requires c = line-fits (goal.at.put_value-at-requires c).In-loop-i
+put_value-at-requires c = first_fits _ _ (left (goal.at.put_value-at-requires c).In-loop-v)
 
-pub loop-i-preserved : goal.loop-i-preserved
-loop-i-preserved c =
-    let p = c.put_value-at.ensures in
-    (placed-length (line-fits (goal.at.loop-i-preserved c).In-loop-i) p ∙ c.loop-i.invariant.0, rest-after (line (goal.at.loop-i-preserved c).In-loop-i) (others (goal.at.loop-i-preserved c).In-loop-i) (left (goal.at.loop-i-preserved c).In-loop-i) p)
-
-pub shape_of-buffer : goal.shape_of-buffer
-shape_of-buffer c = c.loop-i.invariant.0
+pub loop-v-preserved : goal.loop-v-preserved
+loop-v-preserved c = rest-after _ _ (left (goal.at.loop-v-preserved c).In-loop-v) c.put_value-at.ensures
 
 pub returns : goal.returns
 returns c =
-    let l = c.loop-i in
-    l.invariant.1.whole (placed-as (no_value c.args.values.now l.i (omega arith)) (placed-none l.buffer l.at))
+    let l = c.loop-v in
+    l.invariant.whole (placed-as (no_value c.args.values.now l.v-index c.loop-v-test.false) (placed-none l.buffer l.at))

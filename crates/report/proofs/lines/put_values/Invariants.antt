@@ -1,14 +1,8 @@
--- `report::lines::put_values` meets its contract. The loop's invariant: the lines of the values from i on are left.
-use mathlib.Core.Path.{◌≡◌}
-use Prim.Native.Nat.{◌-◌}
-use lib.ListN.{length, drop}
+-- The lines of the values from this place on are left.
+use Rattle.std.proofs.Common.{drop}
 use Rattle.rules.specs.Solve.{value_lines}
 use Rattle.report.proofs.Placing.{Rest}
 use Rattle.report.proofs.lines.put_values.Given as goal
 
-abbrev pub invariant-loop-i : goal.invariant-loop-i
-invariant-loop-i l =
-    (length l.buffer ≡ length l.initial.buffer) × Rest (value_lines l.values) l.initial.buffer l.from (value_lines (drop l.i l.values)) l.buffer l.at
-
-abbrev pub decreases-loop-i : goal.decreases-loop-i
-decreases-loop-i l = length l.values - l.i
+abbrev pub invariant-loop-v : goal.invariant-loop-v
+invariant-loop-v l = Rest (value_lines l.values) l.initial.buffer l.from (value_lines (drop l.v-index l.values)) l.buffer l.at

@@ -5,16 +5,12 @@ use mathlib.Core.Bool.{Bool}
 use mathlib.Core.List.{List}
 use native.Mathlib.Omega.{arith}
 use lib.ListN.{take}
-use lib.Seq.{length-take-le}
 use Rattle.rules.specs.Numbers.{word_end, choose}
 use Rattle.hardware.specs.Buffers.{rank}
 use Rattle.hardware.specs.Places.{moved}
 use Rattle.storing.proofs.InsertLaws.{places-numbered, PlacesFor, places-for}
 use Rattle.storing.proofs.cells.insert_span.Goals as goal
 use Rattle.storing.proofs.cells.insert_span.Goals.{After-rank_of-high}
-
-pub slice_bounds-rank_of-end-2 : goal.slice_bounds-rank_of-end-2
-slice_bounds-rank_of-end-2 c = sym (length-take-le _ _ c.requires.ordered.addresses.within)
 
 pub overflow_add-start : goal.overflow_add-start
 unfolding word_end
@@ -25,12 +21,15 @@ module _ (c : After-rank_of-high) where
   abbrev high : ℕ
   high = rank (take c.args.count c.args.addresses.now) (c.args.start + c.args.n)
 
+  at_high : c.rank_of-high.result ≡ high
+  at_high = c.rank_of-high.ensures ∙ ap (λ (l : List ℕ). rank l (c.args.start + c.args.n)) c.of.ensures
+
   found : PlacesFor c.args.count c.args.addresses.now c.args.start c.args.n c.args.low c.rank_of-high.result
   found =
       let a = c.args in
       let o = c.requires in
       places-for a.count a.addresses.now o.ordered.addresses a.start a.n a.low c.rank_of-high.result
-      o.low_value c.rank_of-high.ensures o.n_in_bounds
+      o.low_value at_high o.n_in_bounds
 
   -- what moves up by the new cells moves behind the places
 
@@ -46,7 +45,7 @@ module _ (c : After-rank_of-high) where
       let r = found in
       let h = c.rank_of-high.result in
       let e : h + (a.n - (h - a.low)) ≡ a.low + a.n = omega arith in
-      ap (λ (to : ℕ). moved a.count h to bs) e ∙ ap (λ (from : ℕ). moved a.count from (a.low + a.n) bs) c.rank_of-high.ensures
+      ap (λ (to : ℕ). moved a.count h to bs) e ∙ ap (λ (from : ℕ). moved a.count from (a.low + a.n) bs) at_high
 
   moved-behind : (bs bs' : List ℕ) → bs' ≡ shifted bs → bs' ≡ opened bs
   moved-behind bs bs' m = m ∙ behind bs

@@ -1,5 +1,4 @@
--- `storing::cells::number_cells` meets its contract. The loop's invariant: the first i addresses are written, at least one.
-use Prim.Native.Nat.{◌-◌, ◌≤◌}
+-- `storing::cells::number_cells` meets its contract. The loop's invariant: the first i addresses are written.
 use mathlib.Core.Path.{◌≡◌}
 use lib.ListN.{length, take}
 use Rattle.rules.specs.Step.{overlay}
@@ -7,11 +6,4 @@ use Rattle.hardware.specs.Places.{consecutive}
 use Rattle.storing.proofs.cells.number_cells.Given as goal
 
 abbrev pub invariant-loop-i : goal.invariant-loop-i
-invariant-loop-i l =
-    (1 ≤ l.i)
-    × (l.i ≤ length l.initial.addresses)
-    × (l.addresses ≡ overlay (take l.i (consecutive l.start (length l.initial.addresses))) l.initial.addresses)
-    × (length l.addresses ≡ length l.initial.addresses)
-
-abbrev pub decreases-loop-i : goal.decreases-loop-i
-decreases-loop-i l = length l.initial.addresses - l.i
+invariant-loop-i l = l.addresses ≡ overlay (take l.i (consecutive l.start (length l.initial.addresses))) l.initial.addresses

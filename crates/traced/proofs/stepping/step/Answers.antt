@@ -17,7 +17,7 @@ use Rattle.traced.proofs.stepping.step.Goals as goal
 use Rattle.traced.proofs.stepping.step.Goals.{After-look-look, Else-ran-eq0, Start}
 
 abbrev program : Start → List Instruction
-program s = program_of s.args.words.now
+program s = program_of s.args.program.words.now
 
 abbrev before : Start → Snapshot
 before s = let a = s.args in snapshot a.machine a.addresses.now a.numbers.now a.moments.now a.tape.now a.output.now
@@ -28,7 +28,7 @@ ten s = search rules
 -- what is seen of the step
 looks : (c : After-look-look)
     → let a = c.args in
-    Looks (program_of a.words.now) (snapshot a.machine a.addresses.now a.numbers.now a.moments.now a.tape.now a.output.now) c.look-look.result
+    Looks (program_of a.program.words.now) (snapshot a.machine a.addresses.now a.numbers.now a.moments.now a.tape.now a.output.now) c.look-look.result
 looks c =
     let a = c.args in
     c.look-look.ensures.looks a.numbers.now a.moments.now a.tape.now a.output.now
@@ -38,51 +38,30 @@ looks c =
 -- dst is a register
 index : (c : Else-ran-eq0)
     → let a = c.args in
-    Looks (program_of a.words.now) (snapshot a.machine a.addresses.now a.numbers.now a.moments.now a.tape.now a.output.now) c.look-look.result
+    Looks (program_of a.program.words.now) (snapshot a.machine a.addresses.now a.numbers.now a.moments.now a.tape.now a.output.now) c.look-look.result
     → c.look-look.result.dst < 10
 index c l =
     let a = c.args in
-    let k = is-accepted (program_of a.words.now) (length a.sheet.now)
+    let k = is-accepted (program_of a.program.words.now) (length a.sheet.now)
     (snapshot a.machine a.addresses.now a.numbers.now a.moments.now a.tape.now a.output.now) []
     (λ z. c.if-ran-eq0.false (c.plain_step-ran.ensures.answered.steps ∙ z)) in
     (l.line k.0 k.1).0
 
-pub look-look-requires : goal.look-look-requires
-look-look-requires c =
+pub look-look-requires-clause-rising : goal.look-look-requires-clause-rising
+look-look-requires-clause-rising c =
     let a = c.args in
-    record {
-      loaded = c.requires.loaded;
-      words_in_bounds = c.requires.words_in_bounds;
-      rising = cells-rise a.machine a.addresses.now a.numbers.now a.moments.now a.tape.now a.output.now c.requires.output_value;
-    }
+    cells-rise a.machine a.addresses.now a.numbers.now a.moments.now a.tape.now a.output.now c.requires.output_value
 
 pub returns-then-look : goal.returns-then-look
 returns-then-look c ls h =
     no_step (program (goal.at.returns-then-look c).Start) (before (goal.at.returns-then-look c).Start) ls c.args.at c.args.sheet.now c.requires.at_in_bounds c.requires.output_value c.stop.result _ c.stop.ensures
     (at-unread (program (goal.at.returns-then-look c).Start) (length c.args.sheet.now) (before (goal.at.returns-then-look c).Start) ls (sym (looks (goal.at.returns-then-look c).After-look-look).unread ∙ c.if-look.true))
 
-pub step_without_line-requires : goal.step_without_line-requires
-step_without_line-requires c = record {
-  loaded = c.requires.loaded;
-  words_in_bounds = omega (arith, c.look-look.ensures.values_len_unchanged, c.requires.words_in_bounds);
-  output_value = c.requires.output_value;
-}
-
 pub returns-then-sheet-at-lt-LINE_BYTES : goal.returns-then-sheet-at-lt-LINE_BYTES
 returns-then-sheet-at-lt-LINE_BYTES c ls h =
     no_step (program (goal.at.returns-then-sheet-at-lt-LINE_BYTES c).Start) (before (goal.at.returns-then-sheet-at-lt-LINE_BYTES c).Start) ls c.args.at c.args.sheet.now c.requires.at_in_bounds c.requires.output_value c.step_without_line.result _ c.step_without_line.ensures
     (at-short (program (goal.at.returns-then-sheet-at-lt-LINE_BYTES c).Start) (length c.args.sheet.now) (before (goal.at.returns-then-sheet-at-lt-LINE_BYTES c).Start) ls (sym (looks (goal.at.returns-then-sheet-at-lt-LINE_BYTES c).After-look-look).unread ∙ c.if-look.false)
     (is-short (length c.args.sheet.now) c.args.at (length ls) h c.requires.at_in_bounds c.if-sheet-at-lt-LINE_BYTES.true))
-
-pub plain_step-ran-requires : goal.plain_step-ran-requires
-plain_step-ran-requires c = record {
-  loaded = c.requires.loaded;
-  words_in_bounds = omega (arith, c.look-look.ensures.values_len_unchanged, c.requires.words_in_bounds);
-  output_value = c.requires.output_value;
-}
-
-pub shape_of-values-then-ran-eq0 : goal.shape_of-values-then-ran-eq0
-shape_of-values-then-ran-eq0 c = c.plain_step-ran.auto.values ∙ c.look-look.ensures.values_len_unchanged
 
 pub returns-then-ran-eq0 : goal.returns-then-ran-eq0
 returns-then-ran-eq0 c ls h =
@@ -92,17 +71,11 @@ returns-then-ran-eq0 c ls h =
     (is-long (length c.args.sheet.now) c.args.at (length ls) h c.requires.at_in_bounds c.if-sheet-at-lt-LINE_BYTES.false)
     (sym p.ensures.answered.steps ∙ c.if-ran-eq0.true))
 
-pub offset_bounds-after-dst : goal.offset_bounds-after-dst
-offset_bounds-after-dst c = let at = goal.at.offset_bounds-after-dst c in omega (arith, index at.Else-ran-eq0 (looks at.After-look-look))
+pub offset_bounds-ran-look : goal.offset_bounds-ran-look
+offset_bounds-ran-look c = let at = goal.at.offset_bounds-ran-look c in omega (arith, index at.Else-ran-eq0 (looks at.After-look-look))
 
-pub bounds-after-dst : goal.bounds-after-dst
-bounds-after-dst c = let at = goal.at.bounds-after-dst c in index at.Else-ran-eq0 (looks at.After-look-look)
-
-pub put_line-requires : goal.put_line-requires
-put_line-requires c = omega (arith, c.if-sheet-at-lt-LINE_BYTES.false, c.requires.at_in_bounds)
-
-pub shape_of-values : goal.shape_of-values
-shape_of-values c = c.plain_step-ran.auto.values ∙ c.look-look.ensures.values_len_unchanged
+pub bounds-ran-look : goal.bounds-ran-look
+bounds-ran-look c = let at = goal.at.bounds-ran-look c in index at.Else-ran-eq0 (looks at.After-look-look)
 
 pub returns : goal.returns
 returns c ls h =

@@ -17,11 +17,11 @@ returns-then-tried-eq0 c =
     let a = c.args in
     let t = c.try_step-tried in
     c.stop.ensures
-    ∙ ap (stopped a.machine) (own-refusal (program_of a.words.now) (snapshot a.machine a.addresses.now a.numbers.now a.moments.now a.tape.now a.output.now) t.result t.ensures (omega arith))
+    ∙ ap (stopped a.machine) (own-refusal (program_of a.program.words.now) (snapshot a.machine a.addresses.now a.numbers.now a.moments.now a.tape.now a.output.now) t.result t.ensures (omega arith))
 
 pub returns : goal.returns
 returns c =
     let a = c.args in
     let t = c.try_step-tried in
     c.stop-2.ensures
-    ∙ ap (stopped a.machine) (too_short (program_of a.words.now) (snapshot a.machine a.addresses.now a.numbers.now a.moments.now a.tape.now a.output.now) t.result t.ensures (λ e. omega arith))
+    ∙ ap (stopped a.machine) (too_short (program_of a.program.words.now) (snapshot a.machine a.addresses.now a.numbers.now a.moments.now a.tape.now a.output.now) t.result t.ensures (λ e. omega arith))

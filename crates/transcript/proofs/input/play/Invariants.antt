@@ -1,7 +1,6 @@
--- `transcript::input::play` keeps what is left of a line at the start of the buffer.
-use Rattle.std.proofs.Common.{◌≡◌, length}
-use Rattle.case_fields.specs.Counts.{IsPrefixLen}
+-- `transcript::input::play` keeps what is left of a line within the buffer.
+use Rattle.std.proofs.Common.{◌≤◌, length}
 use Rattle.transcript.proofs.input.play.Given as goal
 
 abbrev pub invariant-loop : goal.invariant-loop
-invariant-loop g l = (length l.text ≡ length l.initial.text) × (IsPrefixLen l.rest l.buffer) × (length l.buffer ≡ length l.initial.buffer)
+invariant-loop g l = l.rest ≤ length l.buffer

@@ -1,3 +1,0 @@
--- What the contracts cite.
-pub mod Counts
-pub mod Parts

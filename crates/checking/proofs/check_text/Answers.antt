@@ -1,5 +1,0 @@
--- `checking::check_text` meets its contract: the text is checked, and the answer at entry is its own.
-use Rattle.checking.proofs.check_text.Goals as goal
-
-pub returns : goal.returns
-returns c = c.entry_answer.ensures _ c.check_text-checked.ensures.answer

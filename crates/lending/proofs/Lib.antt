@@ -1,2 +1,0 @@
--- What the proofs of thin functions share.
-pub mod Lending
