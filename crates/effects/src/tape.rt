@@ -6,14 +6,16 @@ ghost use Rattle.rules.specs.declared.Refusal.TheVariants.{NoCapacity};
 ghost use Rattle.rules.specs.Numbers.{word_end};
 ghost use Rattle.rules.specs.Step.{span_fits};
 ghost use Rattle.rules.specs.Entry.{every};
+ghost use Rattle.hardware.specs.Buffers.{Rising};
 ghost use Rattle.effects.specs.Views.{used_addresses};
 ghost use Rattle.effects.specs.Effects.{StoreTape, CallContract, Means};
 ghost use Rattle.effects.specs.Changes.{check, sink_where, tape_from, tape_count};
 ghost use Rattle.effects.specs.Operations.{tests_of, has_capacity, loads_part, on_tape_of, loads_tape, span_among, on_span, part_mark, more};
 
-use crate::seen::Seen;
+use crate::seen::{Seen, Written};
 use crate::{Effect, memory};
 use hardware::addresses::Addresses;
+use hardware::cells;
 use hardware::regions::Region;
 use rules::Refusal;
 
@@ -158,34 +160,59 @@ fn test_values(start: u64, values: &[u64]) -> Result<(), Refusal>
 }
 
 // n values of the tape from a place on go to the cells from an address on.
-fn load_part(seen: &Seen, from: usize, n: usize, address: u64, next: u64) -> Effect
-    requires { from + n ≤ length seen.now.tape.buffer.now }
+fn load_part(
+    count: usize,
+    addresses: &[u64],
+    tape: &[u64],
+    from: usize,
+    n: usize,
+    address: u64,
+    next: u64,
+) -> Effect
+    requires rising { Rising count addresses.now }
+    requires n_in_bounds { from + n ≤ length tape.now }
     ensures { (l : List ℕ)
-        → Means l result (λ t. loads_part seen.now.tape.buffer.now from n address
-        (has_capacity seen.now.cells.addresses.now seen.now.cells.count address n) next) }
+        → Means l result (λ t. loads_part tape.now from n address (has_capacity addresses.now count address n) next) }
 {
     if reaches_word_end(address, n as u64) {
         return Effect::refuse(Refusal::StoreFault);
     }
     let end = from + n;
-    if let Err(f) = test_values(address, &seen.tape.buffer[from..end]) {
+    if let Err(f) = test_values(address, &tape[from..end]) {
         return Effect::refuse(f);
     }
-    if !seen.cells.has_capacity(address, n) {
+    if !cells::has_capacity(count, address, n, addresses) {
         return Effect::refuse(Refusal::NoCapacity);
     }
     Effect::load_tape(from, n, address, next)
 }
 
-// TLOAD.
-pub fn load_tape(seen: &Seen, a: u64, b: u64, address: u64, next: u64) -> Effect
+// TLOAD. It takes the addresses and the tape alone, as docs/PAPER.md names it: what else a step may look at it does not need.
+pub fn load_tape(
+    count: usize,
+    addresses: &[u64],
+    tape: &Written,
+    a: u64,
+    b: u64,
+    address: u64,
+    next: u64,
+) -> Effect
+    requires { Rising count addresses.now }
     ensures { (l : List ℕ)
-        → Means l result (λ t. loads_tape a b seen.now.tape.buffer.now seen.now.tape.count address
-        (has_capacity seen.now.cells.addresses.now seen.now.cells.count address (tape_count a b)) next) }
+        → Means l result (λ t. loads_tape a b tape.now.buffer.now tape.now.count address
+        (has_capacity addresses.now count address (tape_count a b)) next) }
 {
-    let used = seen.tape.count;
+    let used = tape.count;
     if !is_on_tape(a, b, used) {
         return Effect::refuse(Refusal::TapeFault);
     }
-    load_part(seen, tape_from(a, b, used), tape_count(a, b), address, next)
+    load_part(
+        count,
+        addresses,
+        tape.buffer,
+        tape_from(a, b, used),
+        tape_count(a, b),
+        address,
+        next,
+    )
 }

@@ -3,7 +3,7 @@
 ghost use Rattle.std.specs.Prelude.{◌≡◌, ◌&&◌, ◌+◌, ◌≤◌, ◌<◌, leb, eqb, length, get_or, take, drop};
 ghost use Rattle.rules.specs.Numbers.{word_end};
 ghost use Rattle.rules.specs.Memory.{held};
-ghost use Rattle.hardware.specs.Buffers.{missing, cells_of, mark_cells_of, cell_of, any_mark, Ordered};
+ghost use Rattle.hardware.specs.Buffers.{missing, Rising, cells_of, mark_cells_of, cell_of, any_mark, Ordered};
 
 use crate::addresses::Addresses;
 use goldilocks::GoldilocksField;
@@ -90,18 +90,27 @@ impl<'a> CellBuffers<'a> {
             ≡ leb (self.entry.count + missing (take self.entry.count self.entry.addresses.now) start n)
             (length self.entry.addresses.now) }
     {
-        let free = self.addresses.len() - self.count;
-        if n <= free {
-            return true;
-        }
-        let used = self.used();
-        let low = used.rank_of(start);
-        let high = used.rank_of(start + n as u64);
-        n - (high - low) <= free
+        has_capacity(self.count, start, n, self.addresses)
     }
 }
 
-// The four functions that follow ask less than the methods of their names, and stand as docs/DECISIONS.md and docs/PAPER.md name them.
+// The five functions that follow ask less than the methods of their names, and stand as docs/DECISIONS.md and docs/PAPER.md name them.
+
+// Is there capacity for the n cells from an address on? Those that are present need none.
+pub fn has_capacity(count: usize, start: u64, n: usize, addresses: &[u64]) -> bool
+    requires rising { Rising count addresses.now }
+    requires n_bound { start + n < word_end }
+    ensures { result ≡ leb (count + missing (take count addresses.now) start n) (length addresses.now) }
+{
+    let free = addresses.len() - count;
+    if n <= free {
+        return true;
+    }
+    let used = Addresses::of(count, addresses);
+    let low = used.rank_of(start);
+    let high = used.rank_of(start + n as u64);
+    n - (high - low) <= free
+}
 
 // The number and the moment of the cell at a place.
 pub fn held_at(at: usize, numbers: &[u64], moments: &[u64]) -> Held

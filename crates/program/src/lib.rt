@@ -2,7 +2,8 @@
 // that it is lent, and nothing else is touched.
 //
 // Public: `binary_program::{frame_length, decode}`, `table::check_words`.
-// Internal, for the crates above: `table::Loaded`, a program that passed its check, with its table, and the methods of `table::Row`.
+// Internal, for the crates above: `table::row_at`, `table::Loaded`, a program that passed its check, with its table, and the methods of
+// `table::Row`.
 #![tactic(auto)]
 
 pub mod binary_program;

@@ -8,8 +8,8 @@ use Rattle.effects.proofs.tape.load_part.Goals as goal
 use Rattle.effects.proofs.tape.load_part.Goals.{After-test_values}
 
 tested : (c : After-test_values) → let s = c.args in
-    tests_of s.address (take s.n (drop s.from s.seen.now.tape.buffer.now)) ≡ c.test_values.result
-tested c = let s = c.args in ap (tests_of s.address) (sym (part-between s.from s.n s.seen.now.tape.buffer.now)) ∙ sym c.test_values.ensures
+    tests_of s.address (take s.n (drop s.from s.tape.now)) ≡ c.test_values.result
+tested c = let s = c.args in ap (tests_of s.address) (sym (part-between s.from s.n s.tape.now)) ∙ sym c.test_values.ensures
 
 pub returns-then-reaches_word_end : goal.returns-then-reaches_word_end
 unfolding check
