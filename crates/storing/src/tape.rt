@@ -7,5 +7,8 @@ pub fn write_values(values: &[u64], free: &mut [u64])
     requires { length values.now ≤ length free.old }
     ensures { free.new ≡ overlay values.now free.old }
 {
-    free[..values.len()].copy_from_slice(values);
+    // no `copy_from_slice`: with it the library for C would need memmove from outside
+    for i in 0..values.len() {
+        free[i] = values[i];
+    }
 }

@@ -60,14 +60,12 @@ fn plain_step(
     )
 }
 
-// A copy of a buffer, at the front of an array.
-fn copied<const N: usize>(buffer: &[u64]) -> [u64; N]
+// Copies a buffer to the front of an array where that stands: an array given back by value would be copied again, twice.
+fn copy<const N: usize>(buffer: &[u64], array: &mut [u64; N])
     requires { length buffer.now ≤ N }
-    ensures { take (length buffer.now) result ≡ buffer.now }
+    ensures { take (length buffer.now) array.new ≡ buffer.now }
 {
-    let mut copy = [0; N];
-    copy[..buffer.len()].copy_from_slice(buffer);
-    copy
+    storing::tape::write_values(buffer, array);
 }
 
 // The plain step on copies, to see what it would answer.
@@ -87,11 +85,16 @@ fn try_step(
         (snapshot machine addresses.now numbers.now moments.now
         tape.now output.now) result }
 {
-    let mut tried_addresses: [u64; entry::CELL_LIMIT] = copied(addresses);
-    let mut tried_numbers: [u64; entry::CELL_LIMIT] = copied(numbers);
-    let mut tried_moments: [u64; entry::CELL_LIMIT] = copied(moments);
-    let mut tried_tape: [u64; entry::VALUE_LIMIT] = copied(tape);
-    let mut tried_output: [u64; entry::VALUE_LIMIT] = copied(output);
+    let mut tried_addresses = [0; entry::CELL_LIMIT];
+    let mut tried_numbers = [0; entry::CELL_LIMIT];
+    let mut tried_moments = [0; entry::CELL_LIMIT];
+    let mut tried_tape = [0; entry::VALUE_LIMIT];
+    let mut tried_output = [0; entry::VALUE_LIMIT];
+    copy(addresses, &mut tried_addresses);
+    copy(numbers, &mut tried_numbers);
+    copy(moments, &mut tried_moments);
+    copy(tape, &mut tried_tape);
+    copy(output, &mut tried_output);
     plain_step(
         program,
         machine,
