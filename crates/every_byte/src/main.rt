@@ -54,7 +54,7 @@ fn show<W: Write>(
     out: &mut W,
 ) -> io::Result<()> {
     if let Some(v) = read {
-        write!(out, "{v:016x}")?;
+        show_word(v, out)?;
     } else if !in_budget && !in_frame {
         return Ok(());
     }
@@ -65,4 +65,11 @@ fn show<W: Write>(
         out.write_all(b" frame")?;
     }
     out.write_all(b"\n")
+}
+
+// By the library's own digits, so that they are tried too (docs/FAULTS.md).
+fn show_word<W: Write>(v: u64, out: &mut W) -> io::Result<()> {
+    let mut digits = [0u8; DIGITS];
+    hexadecimal::put_16(0, v, &mut digits);
+    out.write_all(&digits)
 }
